@@ -1,0 +1,3 @@
+pub mod Orders
+pub mod Counts
+pub mod Branches

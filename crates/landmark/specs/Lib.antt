@@ -1,0 +1,4 @@
+pub mod Markings
+pub mod Count
+pub mod Branch
+pub mod Orders

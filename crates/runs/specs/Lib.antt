@@ -1,0 +1,15 @@
+pub mod Runs
+pub mod Lamps
+pub mod Files
+pub mod Checks
+pub mod Forms
+pub mod Tells
+pub mod Breaks
+pub mod Sessions
+pub mod Traces
+pub mod Law
+pub mod Replays
+pub mod Landmarks
+pub mod Theorems
+pub mod Samples
+pub mod Examples
