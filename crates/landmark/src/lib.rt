@@ -4,7 +4,7 @@ ghost use mathlib.Core.Path.{_≡_};
 ghost use mathlib.Core.Bool.{true};
 ghost use Prim.Native.Nat.{ℕ};
 ghost use Rattle.std.specs.Options.{Cases as BySome, isSome};
-ghost use Rattle.landmark.specs.Markings.{Marking, Landmark-laws};
+ghost use Rattle.landmark.specs.Markings.{Marking, Landmark-laws, same-code};
 ghost use Rattle.landmark.specs.declared.Code.{Code};
 use std::cmp::Ordering;
 
@@ -21,6 +21,15 @@ pub use count::CountLandmark;
 pub struct Code {
     pub major: u32,
     pub minor: u32,
+}
+
+impl Code {
+    // Whether the two codes are the same.
+    pub fn is(self, other: Code) -> bool
+        ensures { λ r. ⌜ r ≡ same-code self other ⌝ }
+    {
+        self.major == other.major && self.minor == other.minor
+    }
 }
 
 // A landmark: the name of one moment of a run. It means a code. A landmark's value beyond its code is free; no call tells it.

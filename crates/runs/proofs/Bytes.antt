@@ -10,7 +10,8 @@ use Rattle.machine.specs.declared.Event.the-variants.{Timer, Switch}
 use Rattle.landmark.specs.declared.Code.{Code}
 use Rattle.machine.specs.Kinds.{Kind, Machine-laws}
 use Rattle.landmark.specs.Markings.{Marking, Landmark-laws}
-use Rattle.runs.specs.Runs.{Act, instruction, taking, Run, Moment, Entry, Is-run, first, advance, moment-after, Goes, at, units, journal-from, journal-of}
+use Rattle.runs.specs.declared.Entry.{Entry}
+use Rattle.runs.specs.Runs.{Act, instruction, taking, Run, Moment, Is-run, first, advance, moment-after, Goes, at, units, journal-from, journal-of}
 use Rattle.runs.specs.Files.{two, four, code-bytes, event-bytes, journal-bytes, file-bytes, file-of}
 use Rattle.runs.specs.Tells.{Tells}
 use Rattle.runs.proofs.Moves.{at-end, Sound, advance-sound, first-sound}

@@ -12,9 +12,8 @@ use Rattle.faults.specs.declared.SessionFault.{SessionFault}
 use Rattle.runs.specs.Runs.{Act, instruction, taking, Run, at, units, longer}
 use Rattle.runs.specs.Lamps.{Among}
 use Rattle.runs.specs.Tells.{Tells}
-use Rattle.runs.specs.Sessions.{Mode, recording, replaying, State, Call, Run-for, Interrupt, Keep, Finish, Resume, Seek, Back, Forward, Trail, Write, Show, Load, Memory, supplied, Answer, done, count, listed, written, shown, refused, latest, moved, grown, Does}
+use Rattle.runs.specs.Sessions.{Mode, recording, replaying, State, Call, Run-for, Interrupt, Keep, Finish, Resume, Seek, Back, Forward, Trail, Write, Show, Load, Memory, supplied, Answer, done, count, listed, written, shown, refused, latest, moved, grown, Does, Consistent}
 use Rattle.runs.specs.Traces.{Sort, records, resumes, moves, keeps, looks, turns, loads, sort, succeeded, counted, recorded, turned, Stays, Keeps-all, Allowed}
-use Rattle.runs.proofs.Sessions.{Stands}
 
 pub refused-count : {f : SessionFault} {m : Memory} {n : ℕ} → refused f m ≡ count n → ⊥
 refused-count e = let z : _≡_ {A = ℕ} 0 1 = cc in omega arith
@@ -134,7 +133,7 @@ module _ (K : Kind) (L : Marking) where
     sees : sort c ≡ looks → succeeded a ≡ true → t ≡ s → Effect s c a t
     reads : (file : List ℕ) (b : Run) → c ≡ Load file → s .mode ≡ replaying → a ≡ count (units b) → Tells K L file b → t ≡ record { mode = replaying; run = b; present = 0; kept = 0 ∷ [] } → Effect s c a t
 
-  pub effect : (c : Call) (s : State) (a : Answer) (t : State) → Stands K L s → Does K L s c a t → Effect s c a t
+  pub effect : (c : Call) (s : State) (a : Answer) (t : State) → Consistent K L s → Does K L s c a t → Effect s c a t
   effect (Run-for k) s a t S (m, inl d) = adds refl (ap succeeded (d .1)) (ap (λ (x : State). x .mode) (d .2)) (ap (λ (x : State). x .run) (d .2) ∙ sym (longer-none (s .run)) ∙ ap (λ (x : Answer). longer (s .run) (replicate (counted x) instruction)) (sym (d .1))) (ap (λ (x : State). x .present) (d .2) ∙ S .at-last m ∙ ap (λ (x : State). units (x .run)) (sym (d .2))) (ap (λ (x : State). x .kept) (d .2))
   effect (Run-for k) s a t S (m, inr (inl d)) = refuses _ refl (d .2 .0) (d .2 .1)
   effect (Run-for k) s a t S (m, inr (inr (inl d))) = refuses _ refl (d .3 .0) (d .3 .1)

@@ -13,7 +13,8 @@ use Rattle.landmark.specs.Branch.{branching}
 use Rattle.landmark.specs.Markings.{most-units}
 use Rattle.landmark.proofs.Branches.{branching-laws}
 use Rattle.faults.specs.declared.SessionFault.the-variants.{Unreached}
-use Rattle.runs.specs.Runs.{Act, Run, Entry, instruction, taking, first, moment-after, at, Is-run}
+use Rattle.runs.specs.declared.Entry.{Entry}
+use Rattle.runs.specs.Runs.{Act, Run, instruction, taking, first, moment-after, at, Is-run}
 use Rattle.runs.specs.Lamps.{Among, changes-from}
 use Rattle.runs.specs.Files.{file-of}
 use Rattle.runs.specs.Samples.{counter}

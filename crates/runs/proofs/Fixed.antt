@@ -8,18 +8,18 @@ use lib.ListN.{length-append}
 use Rattle.machine.specs.Kinds.{Kind, Machine-laws}
 use Rattle.landmark.specs.Markings.{Marking, Landmark-laws}
 use Rattle.runs.specs.Runs.{Act, instruction, taking, Run, Is-run, units, event-count, longer}
-use Rattle.runs.specs.Sessions.{State, recording, replaying, Call, Run-for, Interrupt, Finish, Answer, done, count, Does, grown, opened}
+use Rattle.runs.specs.Sessions.{State, recording, replaying, Call, Run-for, Interrupt, Finish, Answer, done, count, Does, grown, opened, Consistent}
 use Rattle.runs.specs.Traces.{Trace, Leads, none, then, sort, loads, Without-load}
 use Rattle.runs.specs.Theorems.{calls, Every-history-is-fixed}
 use Rattle.runs.proofs.Moves.{event-count-append}
 use Rattle.runs.proofs.Journals.{cons-head, cons-tail}
-use Rattle.runs.proofs.Sessions.{Stands, opened-stands, does-stands, longer-more, front-is-run, back-possible}
+use Rattle.runs.proofs.Sessions.{opened-stands, does-stands, longer-more, front-is-run, back-possible}
 use Rattle.runs.proofs.OneAnswer.{same}
 use Rattle.runs.proofs.Effects.{apart}
 
 module _ (K : Kind) (L : Marking) where
   module _ (M : Machine-laws K) (N : Landmark-laws L) where
-    pub leads-fixed : (xs ys : Trace) (s t u : State) → Stands K L s → Leads K L s xs t → Leads K L s ys u → calls xs ≡ calls ys → (xs ≡ ys) × (t ≡ u)
+    pub leads-fixed : (xs ys : Trace) (s t u : State) → Consistent K L s → Leads K L s xs t → Leads K L s ys u → calls xs ≡ calls ys → (xs ≡ ys) × (t ≡ u)
     leads-fixed xs ys s t u S none none e = (refl, refl)
     leads-fixed xs ys s t u S none (then {c = c} {tr = more} w d m) e = absurd (let z : _≡_ {A = ℕ} 0 1 = cc in omega arith)
     leads-fixed xs ys s t u S (then {c = c} {tr = more} w d m) none e = absurd (let z : _≡_ {A = ℕ} 0 1 = cc in omega arith)

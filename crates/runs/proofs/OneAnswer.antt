@@ -13,14 +13,13 @@ use Rattle.machine.specs.Kinds.{Kind, Machine-laws}
 use Rattle.landmark.specs.Markings.{Marking, Landmark-laws, most-units}
 use Rattle.runs.specs.Runs.{Act, instruction, taking, Run, Moment, Is-run, first, at, units, event-count, longer, ends-stopped}
 use Rattle.runs.specs.Checks.{ok, wrong}
-use Rattle.runs.specs.Sessions.{State, Call, Run-for, Interrupt, Keep, Finish, Resume, Seek, Back, Forward, Trail, Write, Show, Load, Answer, count, refused, nothing, Does, grown, opened}
+use Rattle.runs.specs.Sessions.{State, Call, Run-for, Interrupt, Keep, Finish, Resume, Seek, Back, Forward, Trail, Write, Show, Load, Answer, count, refused, nothing, Does, grown, opened, Consistent}
 use Rattle.faults.specs.declared.SessionFault.{SessionFault}
 use Rattle.faults.specs.declared.SessionFault.the-variants.{Stopped, RunFull, JournalFull, NotReady}
 use Rattle.runs.proofs.Moves.{at-end, goes-back}
 use Rattle.runs.proofs.Rising.{one-moment-of, at-sound}
 use Rattle.runs.proofs.Bytes.{tells-file, file-determines}
 use Rattle.runs.proofs.Verdict.{tells-ok}
-use Rattle.runs.proofs.Sessions.{Stands}
 
 ok-wrong : {r : Run} {f : SessionFault} → ok r ≡ wrong f → ⊥
 ok-wrong e = let z : _≡_ {A = ℕ} 0 1 = cc in omega arith
@@ -85,7 +84,7 @@ module _ (K : Kind) (L : Marking) where
   less-not a b l = ne-eqb a b (λ e. omega arith)
 
   module _ (M : Machine-laws K) (N : Landmark-laws L) where
-    interrupt-is : (s : State) (e : Event) (a : Answer) (t : State) → Stands K L s → Does K L s (Interrupt e) a t → (t ≡ interrupt-state s e) × (a ≡ interrupt-answer s e)
+    interrupt-is : (s : State) (e : Event) (a : Answer) (t : State) → Consistent K L s → Does K L s (Interrupt e) a t → (t ≡ interrupt-state s e) × (a ≡ interrupt-answer s e)
     interrupt-is s e a t S (m, x, inl d) = (rw (d .0) (d .1 .1), rw (d .0) (d .1 .0))
     interrupt-is s e a t S (m, x, inr (inl d)) = (rw (d .0, eq-eqb (units (s .run)) most-units (d .1)) (d .2 .1), rw (d .0, eq-eqb (units (s .run)) most-units (d .1)) (d .2 .0))
     interrupt-is s e a t S (m, x, inr (inr (inl d))) = (rw (d .0, less-not (units (s .run)) most-units (d .1), eq-eqb (event-count (s .run .acts)) 256 (d .2)) (d .3 .1), rw (d .0, less-not (units (s .run)) most-units (d .1), eq-eqb (event-count (s .run .acts)) 256 (d .2)) (d .3 .0))
@@ -102,7 +101,7 @@ module _ (K : Kind) (L : Marking) where
             go true p = absurd (both-ways (K .ready e i) (M .laws .stopped-unready i e x h p) r)
             go false p = p
 
-    pub same : (c : Call) (s : State) (a b : Answer) (t u : State) → Stands K L s → Does K L s c a t → Does K L s c b u → (t ≡ u) × (a ≡ b)
+    pub same : (c : Call) (s : State) (a b : Answer) (t u : State) → Consistent K L s → Does K L s c a t → Does K L s c b u → (t ≡ u) × (a ≡ b)
     same (Run-for k) s a b t u S d e = go-one s k a b t u d e
     same (Interrupt v) s a b t u S d e =
         let p = interrupt-is s v a t S d in

@@ -14,7 +14,8 @@ use Rattle.landmark.specs.declared.Code.{Code}
 use Rattle.machine.specs.Bytes.{Bytes}
 use Rattle.machine.specs.Kinds.{Kind, Fits}
 use Rattle.landmark.specs.Markings.{Marking, Landmark-laws}
-use Rattle.runs.specs.Runs.{Entry}
+use Rattle.runs.specs.declared.Entry.{Entry}
+use Rattle.runs.specs.Runs.{}
 use Rattle.runs.specs.Files.{two, four, code-bytes, event-bytes, journal-bytes}
 use Rattle.runs.specs.Checks.{passed, two-at, four-at, code-at, event-ok, event-of, event-place, event-at, events-from, check-events}
 use Rattle.runs.specs.Breaks.{Entries-known}

@@ -1,5 +1,5 @@
 -- What each call keeps of a session.
-use mathlib.Core.Path.{_≡_, refl, sym, subst, _∙_}
+use mathlib.Core.Path.{_≡_, refl, sym, ap, subst, _∙_}
 use mathlib.Core.Bool.{true}
 use mathlib.Core.List.{List, [], _∷_, _++_, append-assoc}
 use mathlib.Core.Logic.{_⊎_, inl, inr, ⊎-elim}
@@ -10,18 +10,12 @@ use Rattle.machine.specs.declared.Event.{Event}
 use Rattle.machine.specs.Kinds.{Kind, Fits}
 use Rattle.landmark.specs.Markings.{Marking, most-units}
 use Rattle.runs.specs.Runs.{Act, instruction, taking, Run, Moment, Is-run, first, Possible, at, units, event-count, longer}
-use Rattle.runs.specs.Lamps.{Among}
-use Rattle.runs.specs.Sessions.{State, recording, replaying, Call, Run-for, Interrupt, Keep, Finish, Resume, Seek, Back, Forward, Trail, Write, Show, Load, Answer, Does, opened, grown, moved}
-use Rattle.runs.specs.Law.{Distinct}
+use Rattle.runs.specs.Lamps.{Among, Distinct}
+use Rattle.runs.specs.Sessions.{State, recording, replaying, Call, Run-for, Interrupt, Keep, Finish, Resume, Seek, Back, Forward, Trail, Write, Show, Load, Answer, Does, opened, grown, moved, Consistent}
 use Rattle.runs.proofs.Moves.{at-end, goes-front, goes-append, goes-back, event-count-append}
 
 pub replaying-not : ¬ (replaying ≡ recording)
 replaying-not e = let z : _≡_ {A = ℕ} 0 1 = cc in omega arith
-
-pub in-push : (u : ℕ) (ks : List ℕ) (k : ℕ) → Among u ks → Among u (ks ++ (k ∷ []))
-in-push u (j ∷ ks) k (inl e) = inl e
-in-push u (j ∷ ks) k (inr h) = inr (in-push u ks k h)
-in-push u [] k h = absurd h
 
 pub in-pushed : (u : ℕ) (ks : List ℕ) (k : ℕ) → Among u (ks ++ (k ∷ [])) → Among u ks ⊎ (u ≡ k)
 in-pushed u [] k (inl e) = inr e
@@ -38,31 +32,21 @@ distinct-push [] k d h = (λ z. z, tt)
 distinct-push (j ∷ ks) k d h = (λ z. ⊎-elim (d .0) (λ e. h (inl (sym e))) (in-pushed j ks k z), distinct-push ks k (d .1) (λ z. h (inr z)))
 
 module _ (K : Kind) (L : Marking) where
-  -- what holds of each session that a history leads to
-  pub record Stands (s : State) : Type 0 where
-    pub is-run : Is-run K L (s .run)
-    pub present-in : s .present ≤ units (s .run)
-    pub at-last : s .mode ≡ recording → s .present ≡ units (s .run)
-    pub starts-kept : Among 0 (s .kept)
-    pub few-kept : length (s .kept) ≤ 8
-    pub kept-once : Distinct (s .kept)
-    pub kept-in : (k : ℕ) → Among k (s .kept) → k ≤ units (s .run)
-
-  pub opened-stands : (i : List ℕ) → K .lawful i ≡ true → Stands (opened i)
+  pub opened-stands : (i : List ℕ) → K .lawful i ≡ true → Consistent K L (opened i)
   opened-stands i h = record {
     is-run = record { lawful = h; goes = tt; few-units = omega arith; few-events = omega arith };
     present-in = omega arith;
     at-last = λ _. refl;
-    starts-kept = inl refl;
+    starts-kept = ([], refl);
     few-kept = omega arith;
     kept-once = (λ z. z, tt);
     kept-in = λ k h. in-none k 0 h;
   }
 
-  moved-stands : (s : State) (v : ℕ) → Stands s → s .mode ≡ replaying → v ≤ units (s .run) → Stands (moved s v)
+  moved-stands : (s : State) (v : ℕ) → Consistent K L s → s .mode ≡ replaying → v ≤ units (s .run) → Consistent K L (moved s v)
   moved-stands s v S e h = record { is-run = S .is-run; present-in = h; at-last = λ q. absurd (replaying-not (sym e ∙ q)); starts-kept = S .starts-kept; few-kept = S .few-kept; kept-once = S .kept-once; kept-in = S .kept-in }
 
-  grown-stands : (s : State) (acts : List Act) → Stands s → Is-run K L (longer (s .run) acts) → Stands (grown s acts)
+  grown-stands : (s : State) (acts : List Act) → Consistent K L s → Is-run K L (longer (s .run) acts) → Consistent K L (grown s acts)
   grown-stands s acts S R = record {
     is-run = R;
     present-in = omega (arith, length-append (s .run .acts) acts);
@@ -82,10 +66,10 @@ module _ (K : Kind) (L : Marking) where
     few-events = omega (arith, event-count-append (r .acts) (taking e ∷ []));
   }
 
-  stays : (s t : State) → Stands s → t ≡ s → Stands t
-  stays s t S e = subst Stands (sym e) S
+  stays : (s t : State) → Consistent K L s → t ≡ s → Consistent K L t
+  stays s t S e = subst (Consistent K L) (sym e) S
 
-  pub does-stands : (c : Call) (s : State) (a : Answer) (t : State) → Stands s → Does K L s c a t → Stands t
+  pub does-stands : (c : Call) (s : State) (a : Answer) (t : State) → Consistent K L s → Does K L s c a t → Consistent K L t
   does-stands (Run-for k) s a t S (m, inl d) = stays s t S (d .2)
   does-stands (Run-for k) s a t S (m, inr (inl d)) = stays s t S (d .2 .1)
   does-stands (Run-for k) s a t S (m, inr (inr (inl d))) = stays s t S (d .3 .1)
@@ -97,7 +81,7 @@ module _ (K : Kind) (L : Marking) where
   does-stands (Interrupt e) s a t S (m, x, inr (inr (inr (inr d)))) = rw (d .4) (grown-stands s (taking e ∷ []) S (take-one (s .run) e (S .is-run) x (d .0) (d .1) (d .2)))
   does-stands Keep s a t S (inl d) = stays s t S (d .2)
   does-stands Keep s a t S (inr (inl d)) = stays s t S (d .2 .1)
-  does-stands Keep s a t S (inr (inr d)) = rw (d .3) (record { is-run = S .is-run; present-in = S .present-in; at-last = S .at-last; starts-kept = in-push 0 (s .kept) (s .present) (S .starts-kept); few-kept = omega (arith, length-append (s .kept) (s .present ∷ []), d .1); kept-once = distinct-push (s .kept) (s .present) (S .kept-once) (d .0); kept-in = λ k h. ⊎-elim (λ a. S .kept-in k a) (λ e. omega (arith, S .present-in)) (in-pushed k (s .kept) (s .present) h) })
+  does-stands Keep s a t S (inr (inr d)) = rw (d .3) (record { is-run = S .is-run; present-in = S .present-in; at-last = S .at-last; starts-kept = (S .starts-kept .0 ++ (s .present ∷ []), ap (λ (ks : List ℕ). ks ++ (s .present ∷ [])) (S .starts-kept .1)); few-kept = omega (arith, length-append (s .kept) (s .present ∷ []), d .1); kept-once = distinct-push (s .kept) (s .present) (S .kept-once) (d .0); kept-in = λ k h. ⊎-elim (λ a. S .kept-in k a) (λ e. omega (arith, S .present-in)) (in-pushed k (s .kept) (s .present) h) })
   does-stands Finish s a t S d = rw (d .2) (record { is-run = S .is-run; present-in = S .present-in; at-last = λ q. absurd (replaying-not q); starts-kept = S .starts-kept; few-kept = S .few-kept; kept-once = S .kept-once; kept-in = S .kept-in })
   does-stands Resume s a t S d = rw (d .2) (record { is-run = S .is-run; present-in = omega arith; at-last = λ q. refl; starts-kept = S .starts-kept; few-kept = S .few-kept; kept-once = S .kept-once; kept-in = S .kept-in })
   does-stands (Seek c) s a t S (m, inl d) = rw (d .3 .1) (moved-stands s (d .0) S m (d .1))
@@ -112,7 +96,7 @@ module _ (K : Kind) (L : Marking) where
   does-stands (Write buffer) s a t S (m, inr d) = stays s t S (d .1 .1)
   does-stands (Show buffer) s a t S (inl d) = stays s t S (d .2)
   does-stands (Show buffer) s a t S (inr d) = stays s t S (d .1 .1)
-  does-stands (Load file) s a t S (m, inl d) = rw (d .3) (record { is-run = d .1 .is-run; present-in = omega arith; at-last = λ q. absurd (replaying-not q); starts-kept = inl refl; few-kept = omega arith; kept-once = (λ z. z, tt); kept-in = λ k h. in-none k (units (d .0)) h })
+  does-stands (Load file) s a t S (m, inl d) = rw (d .3) (record { is-run = d .1 .is-run; present-in = omega arith; at-last = λ q. absurd (replaying-not q); starts-kept = ([], refl); few-kept = omega arith; kept-once = (λ z. z, tt); kept-in = λ k h. in-none k (units (d .0)) h })
   does-stands (Load file) s a t S (m, inr d) = stays s t S (d .2 .1)
 
   pub longer-more : (r : Run) (xs ys : List Act) → longer (longer r xs) ys ≡ longer r (xs ++ ys)

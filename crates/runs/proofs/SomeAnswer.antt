@@ -18,11 +18,11 @@ use Rattle.runs.specs.Runs.{instruction, Run, Moment, Is-run, first, at, units
 use Rattle.runs.specs.Lamps.{trail-of, Among}
 use Rattle.runs.specs.Files.{file-of}
 use Rattle.runs.specs.Checks.{Verdict, ok, wrong, verdict}
-use Rattle.runs.specs.Sessions.{State, recording, replaying, Call, Run-for, Interrupt, Keep, Finish, Resume, Seek, Back, Forward, Trail, Write, Show, Load, Answer, count, done, Does, grown, opened}
+use Rattle.runs.specs.Sessions.{State, recording, replaying, Call, Run-for, Interrupt, Keep, Finish, Resume, Seek, Back, Forward, Trail, Write, Show, Load, Answer, count, done, Does, grown, opened, Consistent}
 use Rattle.runs.specs.Traces.{Allowed, Given}
 use Rattle.runs.proofs.Moves.{at-end, goes-append, event-count-append}
 use Rattle.runs.proofs.Tell.{le-or-lt, same-code-true, code-differs}
-use Rattle.runs.proofs.Sessions.{Stands, longer-more}
+use Rattle.runs.proofs.Sessions.{longer-more}
 use Rattle.runs.proofs.Verdict.{verdict-sound}
 
 -- whether the unit is kept
@@ -41,7 +41,7 @@ true-or-false false = inr refl
 
 module _ (K : Kind) (L : Marking) where
   -- some unit up to n has the landmark, or none has
-  unit-or-none : (r : Run) (c : Code) (n : ℕ) → ((v : ℕ) × (v ≤ n) × (at K L r v .mark ≡ c)) ⊎ ((v : ℕ) → v ≤ n → ¬ (at K L r v .mark ≡ c))
+  pub unit-or-none : (r : Run) (c : Code) (n : ℕ) → ((v : ℕ) × (v ≤ n) × (at K L r v .mark ≡ c)) ⊎ ((v : ℕ) → v ≤ n → ¬ (at K L r v .mark ≡ c))
   unit-or-none r c zero = go (same-code (at K L r 0 .mark) c) refl
     where
       go : (b : Bool) → same-code (at K L r 0 .mark) c ≡ b → ((v : ℕ) × (v ≤ 0) × (at K L r v .mark ≡ c)) ⊎ ((v : ℕ) → v ≤ 0 → ¬ (at K L r v .mark ≡ c))
@@ -59,7 +59,7 @@ module _ (K : Kind) (L : Marking) where
       go false e (inr h) = inr (λ v l. none e h v (le-or-lt v n) l)
 
   -- one instruction more
-  step-one : (r : Run) → Is-run K L r → ends-stopped K L r ≡ false → units r < most-units → Is-run K L (longer r (instruction ∷ []))
+  pub step-one : (r : Run) → Is-run K L r → ends-stopped K L r ≡ false → units r < most-units → Is-run K L (longer r (instruction ∷ []))
   step-one r R p l = record {
     lawful = R .lawful;
     goes = goes-append K L (first K L (r .start)) (r .acts) (instruction ∷ []) (R .goes) (subst (λ (m : Moment). K .stopped (m .image) ≡ false) (at-end K L r) p, tt);
@@ -108,7 +108,7 @@ module _ (K : Kind) (L : Marking) where
   abbrev pub Answered : State → Call → Type 0
   Answered s c = (a : Answer) × (t : State) × Does K L s c a t
 
-  go-answered : (s : State) (k : ℕ) → Stands K L s → s .mode ≡ recording → Answered s (Run-for k)
+  go-answered : (s : State) (k : ℕ) → Consistent K L s → s .mode ≡ recording → Answered s (Run-for k)
   unfolding ran-more
   go-answered s zero S m = (count 0, s, (m, inl (refl, refl, refl)))
   go-answered s (suc k) S m = go (true-or-false (ends-stopped K L (s .run))) (le-or-lt most-units (units (s .run)))
@@ -124,7 +124,7 @@ module _ (K : Kind) (L : Marking) where
           let f : Ran (s .run) (suc k) = ran-more (s .run) k d in
           (count (suc (d .times)), grown s (replicate (suc (d .times)) instruction), (m, inr (inr (inr (omega arith, suc (d .times), omega arith, f .at-most, f .is-run, f .ends, refl, refl)))))
 
-  interrupt-answered : (s : State) (e : Event) → Fits e → Stands K L s → s .mode ≡ recording → Answered s (Interrupt e)
+  interrupt-answered : (s : State) (e : Event) → Fits e → Consistent K L s → s .mode ≡ recording → Answered s (Interrupt e)
   interrupt-answered s e x S m = go (true-or-false (ends-stopped K L (s .run))) (le-or-lt most-units (units (s .run))) (le-or-lt 256 (event-count (s .run .acts))) (true-or-false (K .ready e (at K L (s .run) (units (s .run)) .image)))
     where
       R : Is-run K L (s .run)
@@ -137,7 +137,7 @@ module _ (K : Kind) (L : Marking) where
       go (inr p) (inr b) (inr c) (inl d) = (_, _, (m, x, inr (inr (inr (inr (b, c, d, refl, refl))))))
       go (inr p) (inr b) (inr c) (inr d) = (_, s, (m, x, inr (inr (inr (inl (p, b, c, d, (refl, refl)))))))
 
-  keep-answered : (s : State) → Stands K L s → Answered s Keep
+  keep-answered : (s : State) → Consistent K L s → Answered s Keep
   keep-answered s S = go (kept-or-not (s .present) (s .kept)) (le-or-lt 8 (length (s .kept)))
     where
       go : Among (s .present) (s .kept) ⊎ (¬ Among (s .present) (s .kept)) → (8 ≤ length (s .kept)) ⊎ (length (s .kept) < 8) → Answered s Keep
@@ -195,7 +195,7 @@ module _ (K : Kind) (L : Marking) where
         go (ok r) e = (_, _, (m, inl (r, verdict-sound K L M N file b r e, refl, refl)))
         go (wrong f) e = (_, s, (m, inr (f, e, (refl, refl))))
 
-    pub answered : (s : State) (c : Call) → Stands K L s → Allowed (s .mode) c → Given c → Answered s c
+    pub answered : (s : State) (c : Call) → Consistent K L s → Allowed (s .mode) c → Given c → Answered s c
     answered s (Run-for k) S m g = go-answered s k S m
     answered s (Interrupt e) S m g = interrupt-answered s e g S m
     answered s Keep S m g = keep-answered s S

@@ -23,15 +23,15 @@ use Rattle.runs.specs.Lamps.{Among, Lists-exactly, trail-of}
 use Rattle.runs.specs.Files.{file-of}
 use Rattle.runs.specs.Checks.{ok, wrong, verdict}
 use Rattle.runs.specs.Tells.{Tells}
-use Rattle.runs.specs.Sessions.{Mode, State, Call, Run-for, Interrupt, Keep, Seek, Trail, Write, Show, Load, Memory, entries, bytes, supplied, Answer, done, count, listed, written, shown, refused, latest, Does, opened}
+use Rattle.runs.specs.Sessions.{Mode, State, Call, Run-for, Interrupt, Keep, Seek, Trail, Write, Show, Load, Memory, entries, bytes, supplied, Answer, done, count, listed, written, shown, refused, latest, Does, opened, Consistent}
 use Rattle.runs.specs.Traces.{Trace, Trace-of, Leads, sort, moves, looks, succeeded, Without-load, mode-of, Allowed, Given, Run-of, Unit-of, at-sought, Kept-of}
-use Rattle.runs.specs.Law.{Distinct, Latest, Would-write, Law, Every-kind-keeps-the-law}
+use Rattle.runs.specs.Law.{Latest, Would-write, Law, Every-kind-keeps-the-law}
 use Rattle.runs.proofs.Rising.{one-moment-of}
 use Rattle.runs.proofs.Bytes.{tells-file, file-determines}
 use Rattle.runs.proofs.Tell.{le-or-lt}
 use Rattle.runs.proofs.Lamp.{trail-lists}
 use Rattle.runs.proofs.Verdict.{verdict-complete}
-use Rattle.runs.proofs.Sessions.{Stands, opened-stands, take-one}
+use Rattle.runs.proofs.Sessions.{opened-stands, take-one}
 use Rattle.runs.proofs.OneAnswer.{same}
 use Rattle.runs.proofs.SomeAnswer.{answered}
 use Rattle.runs.proofs.Effects.{refused-count, refused-same, refused-memory, count-same, false-true, apart, longer-none, does-allowed, Effect, refuses, adds, finishes, goes-on, goes-to, keeps-it, sees, reads, effect}
@@ -79,6 +79,9 @@ latest-is v us h = record {
   no-later = λ u a l. latest-least v u us a l;
 }
 
+zero-kept : {us : List ℕ} → (ks : List ℕ) × (us ≡ 0 ∷ ks) → Among 0 us
+zero-kept (ks, e) = subst (λ (x : List ℕ). Among 0 x) (sym e) (inl refl)
+
 not-done : {A : Type 0} {f : SessionFault} {m : Memory} → refused f m ≡ done → A
 not-done e = absurd (let z : _≡_ {A = ℕ} 0 1 = cc in omega arith)
 
@@ -110,7 +113,7 @@ not-refused : {a : Answer} {f : SessionFault} {m : Memory} → a ≡ refused f m
 not-refused e h = false-true (sym h ∙ ap succeeded e)
 
 module _ (K : Kind) (L : Marking) (M : Machine-laws K) (N : Landmark-laws L) where
-  stands : (i : List ℕ) (tr : Trace) (s : State) → K .lawful i ≡ true → Leads K L (opened i) tr s → Stands K L s
+  stands : (i : List ℕ) (tr : Trace) (s : State) → K .lawful i ≡ true → Leads K L (opened i) tr s → Consistent K L s
   stands i tr s h l = leads-stands K L tr (opened i) s (opened-stands K L i h) l
 
   module _ (i : List ℕ) (before rest : Trace) (c : Call) (a : Answer) (T : Trace-of K L i (before ++ ((c, a) ∷ rest))) where
@@ -121,7 +124,7 @@ module _ (K : Kind) (L : Marking) (M : Machine-laws K) (N : Landmark-laws L) whe
     abbrev there : State
     there = the-call .from
 
-    before-stands : Stands K L there
+    before-stands : Consistent K L there
     before-stands = stands i before there (T .0) (the-call .came)
 
     its-effect : Effect K L there c a (the-call .to)
@@ -273,7 +276,7 @@ module _ (K : Kind) (L : Marking) (M : Machine-laws K) (N : Landmark-laws L) whe
 
       far : (y : ℕ) → v ≡ y → n ≡ y - latest y (s .present ∷ s .kept) → (w : ℕ) × Latest w v (u ∷ ks) × (w + n ≡ v)
       far y e m =
-          let P : Latest (latest y (s .present ∷ s .kept)) y (s .present ∷ s .kept) = latest-is y (s .present ∷ s .kept) (inr (before-stands i before rest c (count n) T .starts-kept)) in
+          let P : Latest (latest y (s .present ∷ s .kept)) y (s .present ∷ s .kept) = latest-is y (s .present ∷ s .kept) (inr (zero-kept (before-stands i before rest c (count n) T .starts-kept))) in
           (latest y (s .present ∷ s .kept), subst (λ (z : ℕ). Latest (latest y (s .present ∷ s .kept)) z (u ∷ ks)) (sym e) (subst (λ (us : List ℕ). Latest (latest y (s .present ∷ s .kept)) y us) (λ j. sym pu j ∷ sym pk j) P), omega (arith, P .not-after))
 
       go : Effect K L s c (count n) (the-call i before rest c (count n) T .to) → (w : ℕ) × Latest w v (u ∷ ks) × (w + n ≡ v)
@@ -395,7 +398,7 @@ pub the-law : Every-kind-keeps-the-law
 the-law K L M N = record {
   one-run = λ i tr T. (T .1 .0 .run, run-there K L i tr (T .1 .0) (T .0) (T .1 .1), λ q Q. run-only K L i (T .0) M N tr (T .1 .0) q (T .1 .1) Q, stands K L M N i tr (T .1 .0) (T .0) (T .1 .1) .is-run, λ u v. one-moment-of K L M N (T .1 .0 .run) u v (stands K L M N i tr (T .1 .0) (T .0) (T .1 .1) .is-run));
   one-unit = λ i tr r T R. (T .1 .0 .present, unit-there K L i (T .0) tr (T .1 .0) (T .1 .1), λ v V. unit-only K L i (T .0) M N tr (T .1 .0) v (T .1 .1) V, subst (λ (x : Run). T .1 .0 .present ≤ units x) (sym (run-only K L i (T .0) M N tr (T .1 .0) r (T .1 .1) R)) (stands K L M N i tr (T .1 .0) (T .0) (T .1 .1) .present-in));
-  one-kept = λ i tr r T R. (T .1 .0 .kept, kept-there K L i (T .0) tr (T .1 .0) (T .1 .1), λ js J. kept-only K L i (T .0) M N tr (T .1 .0) js (T .1 .1) J, stands K L M N i tr (T .1 .0) (T .0) (T .1 .1) .starts-kept, stands K L M N i tr (T .1 .0) (T .0) (T .1 .1) .few-kept, stands K L M N i tr (T .1 .0) (T .0) (T .1 .1) .kept-once, λ k a. subst (λ (x : Run). k ≤ units x) (sym (run-only K L i (T .0) M N tr (T .1 .0) r (T .1 .1) R)) (stands K L M N i tr (T .1 .0) (T .0) (T .1 .1) .kept-in k a));
+  one-kept = λ i tr r T R. (T .1 .0 .kept, kept-there K L i (T .0) tr (T .1 .0) (T .1 .1), λ js J. kept-only K L i (T .0) M N tr (T .1 .0) js (T .1 .1) J, zero-kept (stands K L M N i tr (T .1 .0) (T .0) (T .1 .1) .starts-kept), stands K L M N i tr (T .1 .0) (T .0) (T .1 .1) .few-kept, stands K L M N i tr (T .1 .0) (T .0) (T .1 .1) .kept-once, λ k a. subst (λ (x : Run). k ≤ units x) (sym (run-only K L i (T .0) M N tr (T .1 .0) r (T .1 .1) R)) (stands K L M N i tr (T .1 .0) (T .0) (T .1 .1) .kept-in k a));
   allowed = λ i before rest c a T. subst (λ (m : Mode). Allowed m c) (mode-told K L before (opened i) (there K L M N i before rest c a T) (opened-stands K L i (T .0)) (the-call K L M N i before rest c a T .came)) (does-allowed K L c (there K L M N i before rest c a T) a (the-call K L M N i before rest c a T .to) (the-call K L M N i before rest c a T .does));
   answered = λ i before c T A G. let (a, t, d) = answered K L M N (T .1 .0) c (stands K L M N i before (T .1 .0) (T .0) (T .1 .1)) (subst (λ (m : Mode). Allowed m c) (sym (mode-told K L before (opened i) (T .1 .0) (opened-stands K L i (T .0)) (T .1 .1))) A) G in (a, (T .0, (t, leads-more K L before c a (opened i) (T .1 .0) t (T .1 .1) d)));
   one-answer = answers-of K L M N;

@@ -11,11 +11,11 @@ use Rattle.landmark.specs.Markings.{Marking, Landmark-laws}
 use Rattle.runs.specs.Runs.{Act, Run, at, units, longer}
 use Rattle.runs.specs.Lamps.{Among}
 use Rattle.runs.specs.Tells.{Tells}
-use Rattle.runs.specs.Sessions.{Mode, recording, State, Call, Run-for, Interrupt, Keep, Finish, Resume, Seek, Back, Forward, Trail, Write, Show, Load, Answer, done, count, Does, opened}
+use Rattle.runs.specs.Sessions.{Mode, recording, State, Call, Run-for, Interrupt, Keep, Finish, Resume, Seek, Back, Forward, Trail, Write, Show, Load, Answer, done, count, Does, opened, Consistent}
 use Rattle.runs.specs.Traces.{Exchange, Trace, Leads, none, then, succeeded, records, sort, loads, recorded, added, Loaded-none, turned, mode-from, Keeps-all, Allowed, Run-of, begun, last-loaded, Unit-of, at-first, at-load, at-recorded, at-resumed, at-sought, at-back, at-forward, left-at, Kept-of, kept-first, kept-load, kept-new, kept-already, kept-same}
 use Rattle.runs.proofs.Rising.{one-moment-of}
 use Rattle.runs.proofs.Bytes.{tells-file, file-determines}
-use Rattle.runs.proofs.Sessions.{Stands, opened-stands, does-stands, longer-more}
+use Rattle.runs.proofs.Sessions.{opened-stands, does-stands, longer-more}
 use Rattle.runs.proofs.Effects.{refused-count, false-true, apart, longer-none, does-allowed, Effect, refuses, adds, finishes, goes-on, goes-to, keeps-it, sees, reads, Reaches, effect, effect-mode, effect-run, effect-stays, effect-kept}
 
 abbrev pub one : Call → Answer → Trace
@@ -36,7 +36,7 @@ records-mode (Show buffer) m q h = absurd (apart (Show buffer) refl q (omega ari
 records-mode (Load file) m q h = absurd (apart (Load file) refl q (omega arith))
 
 module _ (K : Kind) (L : Marking) where
-  pub leads-stands : (tr : Trace) (s t : State) → Stands K L s → Leads K L s tr t → Stands K L t
+  pub leads-stands : (tr : Trace) (s t : State) → Consistent K L s → Leads K L s tr t → Consistent K L t
   leads-stands tr s t S none = S
   leads-stands tr s t S (then {c = c} {a = a} {tr = more} u d l) = leads-stands more u t (does-stands K L c s a u S d) l
 
@@ -78,12 +78,12 @@ module _ (K : Kind) (L : Marking) where
   leads-more before c a s u t l d = leads-join before (one c a) s u t l (then t d none)
 
   -- the mode
-  pub mode-told : (tr : Trace) (s t : State) → Stands K L s → Leads K L s tr t → t .mode ≡ mode-from (s .mode) tr
+  pub mode-told : (tr : Trace) (s t : State) → Consistent K L s → Leads K L s tr t → t .mode ≡ mode-from (s .mode) tr
   mode-told tr s t S none = refl
   mode-told tr s t S (then {c = c} {a = a} {tr = more} u d l) = mode-told more u t (does-stands K L c s a u S d) l ∙ ap (λ (m : Mode). mode-from m more) (effect-mode K L s c a u (effect K L c s a u S d))
 
   -- the run, where no load succeeds
-  pub run-grows : (tr : Trace) (s t : State) → Stands K L s → Leads K L s tr t → Loaded-none tr → t .run ≡ longer (s .run) (added tr)
+  pub run-grows : (tr : Trace) (s t : State) → Consistent K L s → Leads K L s tr t → Loaded-none tr → t .run ≡ longer (s .run) (added tr)
   run-grows tr s t S none h = sym (longer-none (s .run))
   run-grows tr s t S (then {c = c} {a = a} {tr = more} u d l) h = go (run-grows more u t (does-stands K L c s a u S d) l (h .1)) (effect-run K L s c a u (effect K L c s a u S d)) (h .0)
     where
@@ -97,7 +97,7 @@ module _ (K : Kind) (L : Marking) where
     grew : Loaded-none tr → r ≡ longer (s .run) (added tr) → Run-told s tr r
     read : (before : Trace) (file : List ℕ) (n : ℕ) (since : Trace) (b : Run) → tr ≡ before ++ ((Load file, count n) ∷ since) → Loaded-none since → Tells K L file b → r ≡ longer b (added since) → Run-told s tr r
 
-  run-told : (tr : Trace) (s t : State) → Stands K L s → Leads K L s tr t → Run-told s tr (t .run)
+  run-told : (tr : Trace) (s t : State) → Consistent K L s → Leads K L s tr t → Run-told s tr (t .run)
   run-told tr s t S none = grew tt (sym (longer-none (s .run)))
   run-told tr s t S (then {c = c} {a = a} {tr = more} u d l) = go (run-told more u t (does-stands K L c s a u S d) l) (effect-run K L s c a u (effect K L c s a u S d))
     where
@@ -159,7 +159,7 @@ module _ (K : Kind) (L : Marking) where
       along : (before rest : Trace) (s t : State) → Leads K L (opened i) before s → Unit-of K L i before (s .present) → Kept-of K L i before (s .kept) → Leads K L s rest t → Unit-of K L i (before ++ rest) (t .present) × Kept-of K L i (before ++ rest) (t .kept)
       along before rest s t l U J none = subst (λ (x : Trace). Unit-of K L i x (s .present) × Kept-of K L i x (s .kept)) (sym (append-nil before)) (U, J)
       along before rest s t l U J (then {c = c} {a = a} {tr = more} u d m) =
-          let S : Stands K L s = leads-stands before (opened i) s (opened-stands K L i h) l in
+          let S : Consistent K L s = leads-stands before (opened i) s (opened-stands K L i h) l in
           let E : Effect K L s c a u = effect K L c s a u S d in
           let l2 : Leads K L (opened i) (before ++ one c a) u = leads-more before c a (opened i) s u l d in
           let U2 : Unit-of K L i (before ++ one c a) (u .present) = unit-more before c a s u E (run-there before s h l) (run-there (before ++ one c a) u h l2) U in
@@ -172,7 +172,7 @@ module _ (K : Kind) (L : Marking) where
       kept-there tr s l = along [] tr (opened i) s none at-first kept-first l .1
 
       module _ (M : Machine-laws K) (N : Landmark-laws L) where
-        stands : (tr : Trace) (s : State) → Leads K L (opened i) tr s → Stands K L s
+        stands : (tr : Trace) (s : State) → Leads K L (opened i) tr s → Consistent K L s
         stands tr s l = leads-stands tr (opened i) s (opened-stands K L i h) l
 
         -- a trace has no other run
@@ -180,7 +180,7 @@ module _ (K : Kind) (L : Marking) where
         run-only tr s r l (begun x e) = e ∙ sym (run-grows tr (opened i) s (opened-stands K L i h) l x)
         run-only tr s r l (last-loaded before file n since b q x T e) =
             let m = made before (Load file) (count n) since (opened i) s (subst (λ (y : Trace). Leads K L (opened i) y s) q l) in
-            let S : Stands K L (m .from) = stands before (m .from) (m .came) in
+            let S : Consistent K L (m .from) = stands before (m .from) (m .came) in
             let g : s .run ≡ longer (m .to .run) (added since) = run-grows since (m .to) s (does-stands K L (Load file) (m .from) (count n) (m .to) S (m .does)) (m .went) x in
             e ∙ ap (λ (y : Run). longer y (added since)) (loaded-run (m .from) (m .to) (m .does)) ∙ sym g
           where

@@ -8,7 +8,8 @@ use lib.ListN.{length, replicate}
 use Rattle.machine.specs.declared.Event.{Event}
 use Rattle.machine.specs.Kinds.{Kind}
 use Rattle.landmark.specs.Markings.{Marking}
-use Rattle.runs.specs.Runs.{Act, instruction, taking, Moment, Entry, advance, moment-after, event-count, journal-from}
+use Rattle.runs.specs.declared.Entry.{Entry}
+use Rattle.runs.specs.Runs.{Act, instruction, taking, Moment, advance, moment-after, event-count, journal-from}
 use Rattle.runs.proofs.Moves.{event-count-append}
 use Rattle.runs.proofs.Journals.{Apart, apart-tail, log-head, length-log, cons-head, cons-tail}
 use Rattle.runs.proofs.Replay.{log-append}

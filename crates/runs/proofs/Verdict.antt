@@ -20,7 +20,8 @@ use Rattle.faults.specs.declared.SessionFault.the-variants.{InFile, OfGuest, Un
 use Rattle.machine.specs.Bytes.{Bytes}
 use Rattle.machine.specs.Kinds.{Kind, Machine-laws}
 use Rattle.landmark.specs.Markings.{Marking, Landmark-laws, most-units}
-use Rattle.runs.specs.Runs.{Act, instruction, taking, Run, Moment, Entry, Is-run, Goes, first, advance, at, units, moment-after, journal-from, event-count, journal-of, longer}
+use Rattle.runs.specs.declared.Entry.{Entry}
+use Rattle.runs.specs.Runs.{Act, instruction, taking, Run, Moment, Is-run, Goes, first, advance, at, units, moment-after, journal-from, event-count, journal-of, longer}
 use Rattle.runs.specs.Files.{two, four, code-bytes, journal-bytes, file-bytes, file-of}
 use Rattle.runs.specs.Checks.{Verdict, ok, wrong, Finding, passed, failed, unless, first-failed, passing, Found, found, lost, two-at, four-at, code-at, event-ok, image-of, count-of, event-place, entry, events-of, events-from, last-of, check-1, check-2, check-3, check-4, check-5, check-6, check-7, check-8, check-9, check-events, check-form, conclude, follow, verdict}
 use Rattle.runs.specs.Tells.{Told, Tells}

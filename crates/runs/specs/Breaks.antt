@@ -9,7 +9,8 @@ use Rattle.machine.specs.declared.Event.{Event}
 use Rattle.machine.specs.Kinds.{Kind, Fits}
 use Rattle.landmark.specs.declared.Code.{Code}
 use Rattle.landmark.specs.Markings.{Marking, most-units}
-use Rattle.runs.specs.Runs.{Run, Act, instruction, taking, Entry, Is-run, at, units, journal-of, longer}
+use Rattle.runs.specs.declared.Entry.{Entry}
+use Rattle.runs.specs.Runs.{Run, Act, instruction, taking, Is-run, at, units, journal-of, longer}
 use Rattle.runs.specs.Files.{file-bytes}
 
 module _ (K : Kind) (L : Marking) where

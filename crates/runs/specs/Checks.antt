@@ -15,7 +15,8 @@ use Rattle.faults.specs.declared.FileFault.{FileFault}
 use Rattle.faults.specs.declared.FileFault.the-variants.{Truncated, Version, StatedLength, GuestByte, LandmarkByte, InImage, Extent, EventBytes, UnknownCode}
 use Rattle.faults.specs.declared.SessionFault.{SessionFault}
 use Rattle.faults.specs.declared.SessionFault.the-variants.{InFile, Unreached}
-use Rattle.runs.specs.Runs.{Act, instruction, taking, Run, Moment, Entry, first, advance}
+use Rattle.runs.specs.declared.Entry.{Entry}
+use Rattle.runs.specs.Runs.{Act, instruction, taking, Run, Moment, first, advance}
 
 -- the file gives a run, or is refused
 pub data Verdict : Type 0 where

@@ -7,7 +7,8 @@ use Rattle.machine.specs.declared.Event.the-variants.{Timer, Switch}
 use Rattle.machine.specs.Kinds.{Kind}
 use Rattle.landmark.specs.declared.Code.{Code}
 use Rattle.landmark.specs.Markings.{Marking}
-use Rattle.runs.specs.Runs.{Run, Entry, at, units, journal-of}
+use Rattle.runs.specs.declared.Entry.{Entry}
+use Rattle.runs.specs.Runs.{Run, at, units, journal-of}
 
 -- a number in two bytes and in four, the high byte first
 abbrev pub two : ℕ → List ℕ

@@ -16,6 +16,11 @@ abbrev pub Among : {A : Type 0} → A → List A → Type 0
 Among x [] = ⊥
 Among x (y ∷ ys) = (x ≡ y) ⊎ Among x ys
 
+-- no element stands in the list twice
+abbrev pub Distinct : {A : Type 0} → List A → Type 0
+Distinct [] = Unit {0}
+Distinct (x ∷ xs) = (¬ Among x xs) × Distinct xs
+
 -- the units of the changes rise, each above the one before, the first above u
 abbrev pub Units-rise : ℕ → List LampChange → Type 0
 Units-rise u [] = Unit {0}

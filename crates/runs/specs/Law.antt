@@ -15,15 +15,10 @@ use Rattle.faults.specs.declared.SessionFault.{SessionFault}
 use Rattle.faults.specs.declared.SessionFault.the-variants.{OfGuest, ShortMemory}
 use Rattle.runs.specs.declared.LampChange.{LampChange}
 use Rattle.runs.specs.Runs.{Run, instruction, taking, at, units, longer, Is-run, ends-stopped}
-use Rattle.runs.specs.Lamps.{Among, Lists-exactly}
+use Rattle.runs.specs.Lamps.{Among, Distinct, Lists-exactly}
 use Rattle.runs.specs.Files.{file-of}
 use Rattle.runs.specs.Sessions.{Call, Run-for, Interrupt, Keep, Seek, Trail, Write, Show, Load, Answer, count, listed, written, shown, refused, Memory, entries, bytes, supplied}
 use Rattle.runs.specs.Traces.{Trace, Trace-of, succeeded, moves, looks, sort, Without-load, mode-of, Allowed, Given, Run-of, Unit-of, Kept-of}
-
--- no unit stands in the list twice
-abbrev pub Distinct : List ℕ → Type 0
-Distinct [] = Unit {0}
-Distinct (u ∷ us) = (¬ Among u us) × Distinct us
 
 -- w is the latest of the units that is not after v
 pub record Latest (w v : ℕ) (us : List ℕ) : Type 0 where

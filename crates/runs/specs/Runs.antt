@@ -8,6 +8,7 @@ use Rattle.machine.specs.declared.Event.{Event}
 use Rattle.machine.specs.Kinds.{Kind, Fits}
 use Rattle.landmark.specs.declared.Code.{Code}
 use Rattle.landmark.specs.Markings.{Marking, most-units}
+use Rattle.runs.specs.declared.Entry.{Entry}
 
 -- what one unit of a run is: an instruction carried out, or an event taken
 pub data Act : Type 0 where
@@ -23,11 +24,6 @@ pub record Run : Type 0 where
 pub record Moment : Type 0 where
   pub image : List ℕ
   pub mark : Code
-
--- an entry of a journal: an event, with the landmark of the moment before it is taken
-pub record Entry : Type 0 where
-  pub code : Code
-  pub event : Event
 
 -- how many units the run has
 abbrev pub units : Run → ℕ

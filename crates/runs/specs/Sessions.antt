@@ -16,7 +16,7 @@ use Rattle.faults.specs.declared.SessionFault.{SessionFault}
 use Rattle.faults.specs.declared.SessionFault.the-variants.{OfGuest, Stopped, RunFull, JournalFull, NotReady, KeptFull, NoSuchMoment, OutsideRun, ShortMemory}
 use Rattle.runs.specs.declared.LampChange.{LampChange}
 use Rattle.runs.specs.Runs.{Run, Act, instruction, taking, at, units, longer, Is-run, event-count, ends-stopped}
-use Rattle.runs.specs.Lamps.{Among, trail-of}
+use Rattle.runs.specs.Lamps.{Among, Distinct, trail-of}
 use Rattle.runs.specs.Files.{file-of}
 use Rattle.runs.specs.Tells.{Tells}
 use Rattle.runs.specs.Checks.{verdict, wrong}
@@ -171,3 +171,14 @@ module _ (K : Kind) (L : Marking) where
       (s .mode ≡ replaying)
       × (((r : Run) × Tells K L file r × (a ≡ count (units r)) × (t ≡ record { mode = replaying; run = r; present = 0; kept = 0 ∷ [] }))
       ⊎ ((f : SessionFault) × (verdict K L file ≡ wrong f) × Refuses s (Load file) f a t))
+
+  -- what holds of each session that a history leads to: its run is one that a machine can have, the present unit is one of its moments, the last
+  -- while recording, and so are the kept units, at most eight, the first of them 0 and none twice
+  pub record Consistent (s : State) : Type 0 where
+    pub is-run : Is-run K L (s .run)
+    pub present-in : s .present ≤ units (s .run)
+    pub at-last : s .mode ≡ recording → s .present ≡ units (s .run)
+    pub starts-kept : (ks : List ℕ) × (s .kept ≡ 0 ∷ ks)
+    pub few-kept : length (s .kept) ≤ 8
+    pub kept-once : Distinct (s .kept)
+    pub kept-in : (k : ℕ) → Among k (s .kept) → k ≤ units (s .run)

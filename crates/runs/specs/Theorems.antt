@@ -13,7 +13,8 @@ use Rattle.faults.specs.declared.FileFault.{FileFault}
 use Rattle.faults.specs.declared.SessionFault.the-variants.{InFile, Unreached}
 use Rattle.faults.specs.Refusals.{file-refusal}
 use Rattle.runs.specs.declared.LampChange.{LampChange}
-use Rattle.runs.specs.Runs.{Run, Entry, Is-run, at, units, event-count, journal-of}
+use Rattle.runs.specs.declared.Entry.{Entry}
+use Rattle.runs.specs.Runs.{Run, Is-run, at, units, event-count, journal-of}
 use Rattle.runs.specs.Lamps.{Lists-exactly, trail-of}
 use Rattle.runs.specs.Files.{file-of}
 use Rattle.runs.specs.Tells.{Tells}

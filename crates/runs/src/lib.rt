@@ -8,6 +8,14 @@ ghost use Rattle.runs.specs.Law.{Every-kind-keeps-the-law};
 ghost use Rattle.runs.specs.Samples.{Laws-are-kept};
 ghost use Rattle.runs.specs.Theorems.{Every-journal-replays, Every-trail-is-exact, Every-load-is-decided, Every-form-is-checked, Every-fault-is-first, Every-break-is-found, Every-history-is-fixed};
 use landmark::Code;
+use machine::Event;
+
+// One entry of a journal: an event, with the landmark of the moment before it is taken.
+#[derive(Clone, Copy)]
+pub struct Entry {
+    pub code: Code,
+    pub event: Event,
+}
 
 // One entry of a list of lamp changes: a unit after which the lamp byte differs from before, that unit's landmark, and the new lamp byte.
 #[derive(Clone, Copy)]

@@ -1,0 +1,4 @@
+pub mod Registers
+pub mod Addresses
+pub mod Effects
+pub mod Instructions

@@ -1,0 +1,4 @@
+pub mod Flags
+pub mod Memory
+pub mod Opcodes
+pub mod Arithmetic
