@@ -1,4 +1,5 @@
 // The kept units of a session, each with what a replay needs to begin there.
+#![tactic(auto)]
 
 ghost use Rattle.std.specs.Prelude.{◌≡◌, ℕ, ◌<◌, ◌≤◌, false, List, [], ◌∷◌, length, if◌then◌else◌, nat_le, nat_lt};
 ghost use Rattle.machine.specs.Kinds.{Kind};

@@ -1,5 +1,6 @@
 // Prints what is proved of every recording, one line for each theorem. Each line comes after the call whose contract is that theorem, so a
 // line is printed only where its theorem is proved.
+#![tactic(auto)]
 
 use std::io;
 

@@ -1,4 +1,5 @@
 // What a refused call reports. Each layer has its own faults, and keeps those of the layer below whole.
+#![tactic(auto)]
 
 ghost use Rattle.std.specs.Prelude.{◌≡◌};
 ghost use Rattle.faults.specs.Refusals.{refusal_of_guest, file_refusal, session_refusal};

@@ -1,4 +1,5 @@
 // The interface of a landmark, and its two kinds: the count of units, and the count of transfers with the place.
+#![tactic(auto)]
 
 ghost use Rattle.std.specs.Prelude.{◌≡◌, ℕ, true, is_some, IfSome};
 ghost use Rattle.landmark.specs.Markings.{Marking, LandmarkLaws, same_code};

@@ -1,4 +1,5 @@
 // The interface of a guest: what the recorder knows of the machine whose run it records.
+#![tactic(auto)]
 
 ghost use Rattle.std.specs.Prelude.{◌≡◌, ℕ, Bool, true, false, List, length, is_ok, if◌then◌else◌, Some, None, MatchResult};
 ghost use Rattle.machine.specs.Kinds.{Kind, ImageLaws, Rises};

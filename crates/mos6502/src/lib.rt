@@ -1,4 +1,6 @@
 // The 6502 as a guest of the recorder.
+#![tactic(auto)]
+
 ghost use Rattle.std.specs.Prelude.{◌≡◌, true, length};
 ghost use Rattle.mos6502.specs.Images.{image_of, lawful_image};
 ghost use Rattle.mos6502.specs.Guest.{mos6502};

@@ -1,5 +1,7 @@
 // Runs a table of cases on the 6502 guest, through the machine interface, and prints what each leaves. A line of the table is a name, settings
 // such as A=7F or 0300=A901, and actions: step, timer, switch:05.
+#![tactic(auto)]
+
 ghost use Rattle.std.specs.Prelude.{◌<◌, IfSome};
 
 use anyhow::anyhow;

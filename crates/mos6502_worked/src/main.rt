@@ -1,4 +1,6 @@
 // A program that lights the lamp and waits in a loop, and a switch whose handler puts the switch byte into the lamp: nine units, step by step.
+#![tactic(auto)]
+
 use anyhow::anyhow;
 use machine::{Event, Machine};
 use mos6502::Mos6502;

@@ -1,4 +1,5 @@
 // The reader of a recording file. It makes the checks that need no guest.
+#![tactic(auto)]
 
 ghost use Rattle.std.specs.Prelude.{◌≡◌, ◌<◌, slice_index};
 ghost use Rattle.recording.specs.Starts.{start_check, answer_of};

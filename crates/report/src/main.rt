@@ -1,4 +1,5 @@
 // The report: reads a recording from standard input and prints what it holds.
+#![tactic(auto)]
 
 use std::io::Read;
 use summary::summarize;

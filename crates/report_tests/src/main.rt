@@ -1,4 +1,5 @@
 // Runs the report over a table: each line of standard input is a file in hexadecimal, and is answered by the line that the report prints.
+#![tactic(auto)]
 
 use std::alloc::{AllocError, Global};
 use std::io::{BufRead, BufReader};

@@ -1,6 +1,7 @@
 // The theory of runs: what a run, its moments, its journal, its lamp changes and its recording are, what each call of a session does, and the
 // law of recordings. The definitions stand in specs/. Each function below has one theorem about them for its contract: it does nothing, and
 // that it is proved says that the theorem holds.
+#![tactic(auto)]
 
 ghost use Rattle.runs.specs.Examples.{ChecksSaySo, CallsSaySo};
 ghost use Rattle.runs.specs.Landmarks.{EveryLandmarkIsTold};

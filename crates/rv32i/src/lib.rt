@@ -1,4 +1,5 @@
 // The RV32I guest: the core behind the interface of a guest.
+#![tactic(auto)]
 
 mod image;
 mod units;

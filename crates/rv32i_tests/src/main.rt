@@ -3,6 +3,7 @@
 // A case is a name, the actions joined by commas (see `parse_action`), and the parts of the image that differ from the blank one (see `Case::put`).
 // Printed are the name, for each action `-` (no unit), `n` (no transfer) or `t` (transfer), the place, `stopped` or `running`, `ready` or
 // `busy`, the lamp, and each run of bytes that the saved image and what lies behind it differ in from the image loaded.
+#![tactic(auto)]
 
 mod cases;
 

@@ -1,4 +1,5 @@
 // Drives sessions on both guests with both kinds of landmark, and prints each call with its answer.
+#![tactic(auto)]
 
 mod guests;
 mod tell;

@@ -1,4 +1,5 @@
 // What the report says of its input. As yet it makes the checks that need no guest.
+#![tactic(auto)]
 
 ghost use Rattle.std.specs.Prelude.{◌≡◌, Some};
 ghost use Rattle.summary.specs.Summaries.{guest_of, guest_byte, mark_of, mark_byte, named_kinds, summary_for, summary_of, printed, line_of};
