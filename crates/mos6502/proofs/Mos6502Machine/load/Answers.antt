@@ -11,14 +11,14 @@ was_lawful : (b : Bool) (m held : Cpu) (f : GuestFault) → ◌≡◌ {A = Resul
 was_lawful true m held f e = (refl, cc)
 was_lawful false m held f e = let z : ◌≡◌ {A = ℕ} 0 1 = cc in absurd (omega arith)
 
-pub invariant-of-self : goal.invariant-of-self
-invariant-of-self c =
+pub invariant_of-self : goal.invariant_of-self
+invariant_of-self c =
     let i = c.args.bytes.now in
-    let had = was_lawful (lawful_image i) _ _ _ c.in-ok-self.ensures in
-    (owed (cpu_of i) _ had.1 (cpu_sound i (lawful_parts i had.0)), tt)
+    let had = was_lawful (lawful_image i) _ _ _ c.in_ok-self.ensures in
+    record { ok = owed (cpu_of i) _ had.1 (cpu_sound i (lawful_parts i had.0)) }
 
 pub returns : goal.returns
 returns c =
     let i = c.args.bytes.now in
-    let had = was_lawful (lawful_image i) _ _ _ c.in-ok-self.ensures in
+    let had = was_lawful (lawful_image i) _ _ _ c.in_ok-self.ensures in
     record { succeeds = sym had.0; loads = ap image_of had.1 ∙ image_cpu i (lawful_parts i had.0) }

@@ -12,11 +12,11 @@ returns-then-stopped c =
     let stops = sym c.if-stopped.ensures in
     record { answer = sym (cond-true _ _ _ stops); next = sym (cond-true _ _ _ stops); left = λ _. refl }
 
-pub invariant-of-self : goal.invariant-of-self
-invariant-of-self c =
+pub invariant_of-self : goal.invariant_of-self
+invariant_of-self c =
     let m = c.args.self.now.cpu in
     let known = c.args.self.now.ok in
-    (owed (stepped m) _ c.step-transfer.ensures.next (stepped_kept m (sound_from m known.0 known.1)), tt)
+    record { ok = owed (stepped m) _ c.step-transfer.ensures.next (stepped_kept m (sound_from m known.0 known.1)) }
 
 pub returns : goal.returns
 returns c =

@@ -11,11 +11,11 @@ returns-then-not-ready c =
     let deaf = sym c.if-not-ready.ensures in
     record { answer = sym (cond-false _ _ _ deaf); next = sym (cond-false _ _ _ deaf); left = λ _. refl }
 
-pub invariant-of-self : goal.invariant-of-self
-invariant-of-self c =
+pub invariant_of-self : goal.invariant_of-self
+invariant_of-self c =
     let m = c.args.self.now.cpu in
     let known = c.args.self.now.ok in
-    (owed (taken_event c.args.event m) _ c.take-event.ensures.after (taken_kept c.args.event m c.take-event.ensures.fits (sound_from m known.0 known.1)), tt)
+    record { ok = owed (taken_event c.args.event m) _ c.take_event.ensures.after (taken_kept c.args.event m c.take_event.ensures.fits (sound_from m known.0 known.1)) }
 
 pub returns : goal.returns
 returns c =
@@ -23,6 +23,6 @@ returns c =
     let back = cpu_image c.args.self.now.cpu c.args.self.now.ok.1 in
     record {
       answer = sym (cond-true _ _ _ heard);
-      next = ap image_of (c.take-event.ensures.after ∙ ap (taken_event c.args.event) (sym back)) ∙ sym (cond-true _ _ _ heard);
+      next = ap image_of (c.take_event.ensures.after ∙ ap (taken_event c.args.event) (sym back)) ∙ sym (cond-true _ _ _ heard);
       left = λ deaf. absurd (both_ways _ deaf heard);
     }

@@ -46,6 +46,6 @@ pub returns : goal.returns
 returns c =
     let i = c.args.bytes.now in
     let lawful : Lawful i =
-    record { long = c.if-bytes-ne-LENGTH.false; bytes = λ k. (c.type-inv.bytes k).fits; flags = c.if-bytes-ne2.false; stops = c.if-bytes-ge2.false }
+    record { long = c.if-bytes-ne-LENGTH.false; bytes = λ k. (c.type_inv.bytes k).fits; flags = c.if-bytes-ne2.false; stops = c.if-bytes-ge2.false }
     in
     ap (λ (m : Cpu). Ok m) c.processor.ensures ∙ sym (cond-true (lawful_image i) _ _ (lawful_from i lawful))

@@ -8,4 +8,4 @@ unfolding cpu_of
 returns c =
     let short : length (drop 2058 c.args.bytes.now) ≤ 2048 = simp length-drop (omega (arith, c.requires)) in
     let whole = take_all 2048 (drop 2058 c.args.bytes.now) short in
-    simp (c.from-byte.ensures, c.from.ensures, c.from_2.ensures, c.page-ram.ensures, c.page-rom.ensures, whole)
+    simp (c.from_byte.ensures, c.from.ensures, c.from-2.ensures, c.page-ram.ensures, c.page-rom.ensures, whole)

@@ -12,10 +12,10 @@ returns c =
     let roomy : leb 4106 (length memory) ≡ true = le-leb 4106 (length memory) c.if-buffer-lt-LENGTH.false in
     let ram : length m.memory.ram ≡ 2048 = search rules in
     let rom : length m.memory.rom ≡ 2048 = search rules in
-    let head : c.copy-from-slice.new.self ≡ head_of m = c.copy-from-slice.ensures.after ∙ c.head.ensures in
+    let head : c.copy_from_slice.new.self ≡ head_of m = c.copy_from_slice.ensures.after ∙ c.head.ensures in
     record {
       answer = sym (cond-true _ _ _ roomy);
       memory =
-          written memory (head_of m) m.memory.ram m.memory.rom _ _ _ refl ram rom head c.copy-from-slice-2.ensures.after c.copy-from-slice-3.ensures.after
+          written memory (head_of m) m.memory.ram m.memory.rom _ _ _ refl ram rom head c.copy_from_slice-2.ensures.after c.copy_from_slice-3.ensures.after
           ∙ sym (cond-true _ _ _ roomy);
     }

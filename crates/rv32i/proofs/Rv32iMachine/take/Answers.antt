@@ -7,13 +7,14 @@ use Rattle.rv32i.specs.Laws.{taken_lawful}
 use Rattle.rv32i.proofs.Seen.{taken_seen}
 use Rattle.rv32i.proofs.Rv32iMachine.take.Goals as goal
 
-pub invariant-of-self : goal.invariant-of-self
-invariant-of-self c =
+pub invariant_of-self : goal.invariant_of-self
+invariant_of-self c =
     let g = c.args.self.now in
-    let e = taken_seen g.state g.whole c.interrupt.new.state c.args.event c.interrupt.ensures.after in (
-      ap lawful e ∙ taken_lawful (image_of g.state) c.args.event c.interrupt.ensures.data g.sound,
-      (core_told c.interrupt.new.state c.interrupt.ensures.sizes, tt),
-    )
+    let e = taken_seen g.state g.whole c.interrupt.new.state c.args.event c.interrupt.ensures.after in
+    record {
+      sound = ap lawful e ∙ taken_lawful (image_of g.state) c.args.event c.interrupt.ensures.data g.sound;
+      whole = core_told c.interrupt.new.state c.interrupt.ensures.sizes;
+    }
 
 pub returns : goal.returns
 returns c =

@@ -6,8 +6,8 @@ use Rattle.rv32i.proofs.image.put_words.Goals as goal
 
 pub loop-i-preserved : goal.loop-i-preserved
 loop-i-preserved c =
-    word_put c.args.x.now c.args.buffer.now c.loop-i.buffer c.put.new.buffer c.word-bytes.result c.loop-i.i
-    (search rules) c.loop-i.invariant c.word-bytes.ensures c.put.ensures
+    word_put c.args.x.now c.args.buffer.now c.loop-i.buffer c.put.new.buffer c.word_bytes.result c.loop-i.i
+    (search rules) c.loop-i.invariant c.word_bytes.ensures c.put.ensures
 
 pub returns : goal.returns
 returns c =

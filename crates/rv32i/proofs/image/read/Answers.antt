@@ -7,10 +7,10 @@ unfolding core_of
 returns c =
     let i = c.args.bytes.now in
     λ j. record {
-      registers = record { x = c.read-words-x.ensures j };
-      place = c.word-at.ensures j;
-      saved = c.word-at-2.ensures j;
+      registers = record { x = c.read_words-x.ensures j };
+      place = c.word_at.ensures j;
+      saved = c.word_at-2.ensures j;
       enabled = eqb (get_or i 132 0) 1;
       stopped = eqb (get_or i 133 0) 1;
-      bus = record { rom = c.copy-from-slice.ensures.after j; ram = c.copy-from-slice-2.ensures.after j; lamp = get_or i 134 0; switch = get_or i 135 0 };
+      bus = record { rom = c.copy_from_slice.ensures.after j; ram = c.copy_from_slice-2.ensures.after j; lamp = get_or i 134 0; switch = get_or i 135 0 };
     }

@@ -8,8 +8,8 @@ use Rattle.rv32i.proofs.image.read_words.Goals as goal
 pub loop-i-preserved : goal.loop-i-preserved
 loop-i-preserved c =
     let f : ℕ → ℕ = λ k. word_in c.args.bytes.now (4 * k) in (
-      length-set c.loop-i.x c.loop-i.i c.word-at.result ∙ c.loop-i.invariant.0,
-      λ k h. ap (λ v. get_or (set c.loop-i.x c.loop-i.i v) k 0) c.word-at.ensures
+      length-set c.loop-i.x c.loop-i.i c.word_at.result ∙ c.loop-i.invariant.0,
+      λ k h. ap (λ v. get_or (set c.loop-i.x c.loop-i.i v) k 0) c.word_at.ensures
           ∙ fill_by_more f c.loop-i.x c.loop-i.i 0 (omega arith) c.loop-i.invariant.1 k h,
     )
 

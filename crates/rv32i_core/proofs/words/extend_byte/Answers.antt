@@ -4,5 +4,5 @@ use Rattle.rv32i_core.proofs.words.extend_byte.Goals as goal
 
 pub returns : goal.returns
 returns c =
-    c.cast-unsigned.ensures
-    ∙ widened_byte c.args.byte c.cast-signed.result c.from.result c.ranges.byte.fits c.cast-signed.ensures c.from.ensures (search rules)
+    c.cast_unsigned.ensures
+    ∙ widened_byte c.args.byte c.cast_signed.result c.from.result c.ranges.byte.fits c.cast_signed.ensures c.from.ensures (search rules)

@@ -46,6 +46,6 @@ pub returns-in-115 : goal.returns-in-115
 unfolding decoded
 returns-in-115 c = search rules
 
-pub returns-in-default : goal.returns-in-default
+pub returns-in_default : goal.returns-in_default
 unfolding decoded
-returns-in-default c = search rules
+returns-in_default c = search rules

@@ -5,7 +5,7 @@ use Rattle.replay.specs.declared.place.Checkpoint.{Checkpoint}
 use Rattle.checkpoints.specs.Rows.{aim}
 use Rattle.checkpoints.proofs.Lists.{Best, best_first, best_new, best_old, takes_over}
 use Rattle.checkpoints.proofs.table.Checkpoints.nearest.Goals as goal
-use Rattle.checkpoints.proofs.table.Checkpoints.nearest.Goals.{then-is-closer, else-is-closer}
+use Rattle.checkpoints.proofs.table.Checkpoints.nearest.Goals.{then-is_closer, else-is_closer}
 
 pub loop-i-init : goal.loop-i-init
 loop-i-init g c = (omega arith, λ K. best_first K g.L.Landmark.marking (aim g.L.Landmark.meaning c.args.target) c.args.self.now.rows c.args.self.now.count (omega arith) (omega arith))
@@ -17,11 +17,11 @@ loop-i-preserved g c =
     let b = c.loop-i.best in
     let li : i < length rows = omega arith in
     let lb : b < length rows = omega (arith, c.loop-i.invariant.0) in
-    let tells : (K : Kind) (d : Checkpoint) → takes_over K g.L.Landmark.marking (aim g.L.Landmark.meaning c.args.target) (get_or rows b d) (get_or rows i d) ≡ c.is-closer.result = λ K d. (λ j. takes_over K g.L.Landmark.marking (aim g.L.Landmark.meaning c.args.target) (get_or_default rows b d c.index-self-best.result lb j) (get_or_default rows i d c.index-self-i.result li j)) ∙ sym (c.is-closer.ensures K) in
+    let tells : (K : Kind) (d : Checkpoint) → takes_over K g.L.Landmark.marking (aim g.L.Landmark.meaning c.args.target) (get_or rows b d) (get_or rows i d) ≡ c.is_closer.result = λ K d. (λ j. takes_over K g.L.Landmark.marking (aim g.L.Landmark.meaning c.args.target) (get_or_default rows b d c.index-self-best.result lb j) (get_or_default rows i d c.index-self-i.result li j)) ∙ sym (c.is_closer.ensures K) in
     let Good : ℕ → Type 0 = λ n. (n < c.args.self.now.count) × ((K : Kind) → Best K g.L.Landmark.marking (aim g.L.Landmark.meaning c.args.target) rows c.args.self.now.count (i + 1) n) in
-    elim c.if-is-closer.branch [
-      | then-is-closer w ↦ subst Good (sym w.best-is) (c.loop-i-test.true, λ K. best_new K g.L.Landmark.marking (aim g.L.Landmark.meaning c.args.target) rows c.args.self.now.count i b li (λ d. tells K d ∙ w.if-is-closer.true) (c.loop-i.invariant.1 K))
-      | else-is-closer w ↦ subst Good (sym w.best-is) (c.loop-i.invariant.0, λ K. best_old K g.L.Landmark.marking (aim g.L.Landmark.meaning c.args.target) rows c.args.self.now.count i b li (λ d. tells K d ∙ w.if-is-closer.false) (c.loop-i.invariant.1 K))
+    elim c.if-is_closer.branch [
+      | then-is_closer w ↦ subst Good (sym w.best-is) (c.loop-i-test.true, λ K. best_new K g.L.Landmark.marking (aim g.L.Landmark.meaning c.args.target) rows c.args.self.now.count i b li (λ d. tells K d ∙ w.if-is_closer.true) (c.loop-i.invariant.1 K))
+      | else-is_closer w ↦ subst Good (sym w.best-is) (c.loop-i.invariant.0, λ K. best_old K g.L.Landmark.marking (aim g.L.Landmark.meaning c.args.target) rows c.args.self.now.count i b li (λ d. tells K d ∙ w.if-is_closer.false) (c.loop-i.invariant.1 K))
     ]
 
 pub returns : goal.returns
