@@ -24,7 +24,7 @@ impl Landmark for Branch {
 
     ghost meaning = { λ l. record { major = l.transfers; minor = l.place } };
 
-    ghost had = { first_of (Prim.search rules, Prim.grind (arith, Self.row.coded.inj)) };
+    ghost had = { Prim.search rules };
 
     ghost kept = { branching_laws };
 

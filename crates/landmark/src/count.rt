@@ -22,7 +22,7 @@ impl Landmark for Count {
 
     ghost meaning = { λ l. record { major = 0; minor = l.units } };
 
-    ghost had = { first_of (Prim.search rules, Prim.grind (arith, Self.row.coded.inj)) };
+    ghost had = { Prim.search rules };
 
     ghost kept = { counting_laws };
 

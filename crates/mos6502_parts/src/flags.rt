@@ -47,12 +47,12 @@ impl Flags {
     }
 
     // The flags after a result: N and Z speak of it.
-    pub fn judge(self, res: u8) -> Flags
-        ensures { result ≡ judged self res }
+    pub fn judge(self, value: u8) -> Flags
+        ensures { result ≡ judged self value }
     {
         Flags {
-            n: res >= 128,
-            z: res == 0,
+            n: value >= 128,
+            z: value == 0,
             ..self
         }
     }

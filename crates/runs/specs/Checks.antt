@@ -50,10 +50,10 @@ code_at bs = record { major = number_at bs 0; minor = number_at bs 4 }
 
 -- an event's two bytes: kind 1 is Timer, with data 0, and kind 2 is Switch, with any data
 abbrev pub event_ok : ℕ → ℕ → Bool
-event_ok kind data-byte = cond (kind == 1) (data-byte == 0) (kind == 2)
+event_ok kind data_byte = cond (kind == 1) (data_byte == 0) (kind == 2)
 
 abbrev pub event_of : ℕ → ℕ → Event
-event_of kind data-byte = cond (kind == 1) Timer (Switch data-byte)
+event_of kind data_byte = cond (kind == 1) Timer (Switch data_byte)
 
 -- 1: the file has at least 21 bytes
 abbrev pub check_1 : List ℕ → Finding

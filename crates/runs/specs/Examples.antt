@@ -27,7 +27,7 @@ abbrev pub code : ℕ → ℕ → List ℕ
 code major minor = 0 ∷ 0 ∷ 0 ∷ major ∷ 0 ∷ 0 ∷ 0 ∷ minor ∷ []
 
 abbrev pub event : ℕ → ℕ → ℕ → ℕ → List ℕ
-event major minor kind data-byte = code major minor ++ (kind ∷ data-byte ∷ [])
+event major minor kind data_byte = code major minor ++ (kind ∷ data_byte ∷ [])
 
 abbrev pub entry_at : ℕ → ℕ → EntryAt
 entry_at index offset = record { index = index; offset = offset }
