@@ -1,8 +1,7 @@
 -- The table of checkpoints, as the list of the positions that it holds.
-use Rattle.std.specs.Prelude.{ℕ, cond, List, [], ◌∷◌, ◌++◌, map, length, take, nat_lt}
+use Rattle.std.specs.Prelude.{cond, List, [], ◌∷◌, ◌++◌, map, length, take, nat_lt}
 use Rattle.machine.specs.Kinds.{Kind}
 use Rattle.landmark.specs.declared.Code.{Code}
-use Rattle.replay.specs.declared.place.Checkpoint.{Checkpoint}
 use Rattle.replay.specs.Positions.{Position}
 use Rattle.replay.specs.Cursors.{held}
 use Rattle.checkpoints.specs.declared.table.Checkpoints.{Checkpoints}

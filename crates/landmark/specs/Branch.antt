@@ -1,6 +1,5 @@
 -- The branch kind of landmark: the transfers since the start, and the place.
 use Rattle.std.specs.Prelude.{◌+◌, min, false, cond, nat_lt}
-use Rattle.landmark.specs.declared.Code.{Code}
 use Rattle.landmark.specs.Markings.{Marking}
 use Rattle.landmark.specs.Orders.{major_first}
 

@@ -1,6 +1,5 @@
 -- The count kind of landmark: the units since the start.
 use Rattle.std.specs.Prelude.{◌+◌, min, false, cond, ◌==◌, nat_lt}
-use Rattle.landmark.specs.declared.Code.{Code}
 use Rattle.landmark.specs.Markings.{Marking}
 use Rattle.landmark.specs.Orders.{major_first}
 

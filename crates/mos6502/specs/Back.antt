@@ -1,13 +1,13 @@
 -- The processor and its image: each gives the other back, and what is in range has a lawful image.
-use Rattle.std.specs.Prelude.{◌≡◌, ℕ, zero, suc, ◌+◌, ◌*◌, ◌/◌, ◌%◌, ◌<◌, Bool, true, false, ◌&&◌, List, [], ◌∷◌, ◌++◌, length, take, drop, ◌==◌, nat_eq, nat_lt, slice_index, slice_index_or, refl}
-use Rattle.std.proofs.Common.{sym, ap, subst, ◌∙◌, ⊎_elim, arith, lit<, length-append, drop-cons}
-use Rattle.std.proofs.lemmas.Nat.{shr-shr, div-mul-add, mod-mul-add, div-add-mod'}
+use Rattle.std.specs.Prelude.{◌≡◌, ℕ, zero, suc, ◌/◌, ◌%◌, ◌<◌, Bool, true, false, ◌&&◌, List, [], ◌∷◌, ◌++◌, length, take, drop, ◌==◌, nat_eq, nat_lt, slice_index, slice_index_or, refl}
+use Rattle.std.proofs.Common.{ap, subst, ◌∙◌, ⊎_elim, arith, lit<, length-append, drop-cons}
+use Rattle.std.proofs.lemmas.Nat.{div-mul-add, mod-mul-add, div-add-mod'}
 use Rattle.std.proofs.lemmas.List.{take-append-drop, drop-drop, take_at, drop_at, length-take, length-drop}
 use Rattle.std.proofs.lemmas.Bool.{and_parts, and_from, eqb-true, eq-eqb, ltb-true, lt-ltb, cases_Bool}
 use Rattle.mos6502_parts.specs.declared.flags.Flags.{Flags}
-use Rattle.mos6502_parts.specs.Flags.{bit, set_in, flag_byte, flags_of}
+use Rattle.mos6502_parts.specs.Flags.{bit, flag_byte, flags_of}
 use Rattle.mos6502_core.specs.declared.cpu.Cpu.{Cpu}
-use Rattle.mos6502_core.proofs.Keeps.{Sound, SoundMemory}
+use Rattle.mos6502_core.proofs.Keeps.{Sound}
 use Rattle.mos6502.specs.Images.{head_of, image_of, cpu_of, lawful_flags, lawful_stopped, all_bytes, lawful_image}
 
 -- bits

@@ -1,5 +1,5 @@
 -- The events that reach the processor from outside.
-use Rattle.std.specs.Prelude.{ℕ, Bool, not, ◌&&◌}
+use Rattle.std.specs.Prelude.{Bool, not, ◌&&◌}
 use Rattle.machine.specs.declared.Event.{Event}
 use Rattle.machine.specs.declared.Event.TheVariants.{Timer, Switch}
 use Rattle.mos6502_parts.specs.Flags.{flag_byte}

@@ -1,7 +1,5 @@
 -- The 6502 as a kind of machine: what it does to an image is what the processor does that the image holds.
-use Rattle.std.specs.Prelude.{ℕ, Bool, List}
 use Rattle.machine.specs.Kinds.{Kind}
-use Rattle.machine.specs.declared.Event.{Event}
 use Rattle.mos6502_core.specs.Instructions.{stepped, transfers}
 use Rattle.mos6502.specs.Images.{image_of, cpu_of, lawful_image, offending_offset, blank_image}
 use Rattle.mos6502.specs.Events.{hears, taken_event}

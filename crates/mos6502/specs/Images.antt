@@ -1,5 +1,5 @@
 -- The image of a processor: a list of 4,106 bytes.
-use Rattle.std.specs.Prelude.{ℕ, ◌+◌, ◌*◌, ◌/◌, ◌%◌, Bool, true, false, cond, ◌&&◌, List, [], ◌∷◌, ◌++◌, length, take, drop, replicate, ◌==◌, nat_lt, slice_index}
+use Rattle.std.specs.Prelude.{ℕ, ◌+◌, ◌*◌, ◌/◌, ◌%◌, Bool, true, cond, ◌&&◌, List, [], ◌∷◌, ◌++◌, length, take, drop, replicate, ◌==◌, nat_lt, slice_index}
 use Rattle.mos6502_parts.specs.Flags.{bit, flag_byte, flags_of}
 use Rattle.mos6502_core.specs.declared.cpu.Cpu.{Cpu}
 

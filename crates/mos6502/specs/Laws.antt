@@ -1,6 +1,6 @@
 -- The 6502 keeps the laws of a kind of machine.
-use Rattle.std.specs.Prelude.{◌≡◌, ℕ, ◌^◌, ◌<◌, Bool, true, false, not, List, length, refl}
-use Rattle.std.proofs.Common.{sym, ap, subst, ◌∙◌, arith, lit<, lit≤}
+use Rattle.std.specs.Prelude.{◌≡◌, ℕ, ◌<◌, true, false, not, List, length, refl}
+use Rattle.std.proofs.Common.{sym, ap, subst, arith, lit<, lit≤}
 use Rattle.std.proofs.lemmas.Bool.{cond_both}
 use Rattle.machine.specs.Kinds.{Fits, Rises, ImageLaws}
 use Rattle.machine.specs.declared.Event.{Event}
@@ -9,7 +9,7 @@ use Rattle.mos6502_parts.specs.Flags.{flag_byte}
 use Rattle.mos6502_parts.specs.Memory.{with_switch}
 use Rattle.mos6502_core.specs.declared.cpu.Cpu.{Cpu}
 use Rattle.mos6502_core.specs.Registers.{with_memory}
-use Rattle.mos6502_core.specs.Instructions.{stepped, transfers}
+use Rattle.mos6502_core.specs.Instructions.{stepped}
 use Rattle.mos6502_core.proofs.Keeps.{Sound, stepped_kept, interrupted_kept, memory_kept, with_switch_kept, flag_byte_small}
 use Rattle.mos6502_core.proofs.Rises.{rises}
 use Rattle.mos6502.specs.Images.{image_of, cpu_of, lawful_flags, lawful_image, offending_offset, blank_image}

@@ -22,7 +22,7 @@ use Rattle.mos6502_parts.specs.Opcodes.{operand_length}
 use Rattle.mos6502_core.specs.declared.cpu.Cpu.{Cpu}
 use Rattle.mos6502_core.specs.Registers.{with_a, with_x, with_y, with_s, with_p, with_place, with_stopped, with_memory, past, advanced}
 use Rattle.mos6502_core.specs.Addresses.{address, operand, absolute, indirect, relative}
-use Rattle.mos6502_core.specs.Effects.{loaded_a, loaded_x, loaded_y, stored_at, put, pushed, pulled, top, pushed_word, pulled_word, top_word, interrupted, resumed, called, retired}
+use Rattle.mos6502_core.specs.Effects.{loaded_a, loaded_x, loaded_y, stored_at, put, pushed, pulled, top, pushed_word, pulled_word, top_word, interrupted, resumed, called}
 use Rattle.mos6502_core.specs.Instructions.{put_a, worked, register, branches, implied, executed, instruction, stepped}
 
 pub record SoundMemory (b : Memory) : Type 0 where

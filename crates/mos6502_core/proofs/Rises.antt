@@ -1,10 +1,9 @@
 -- A step that is no transfer leaves a higher place than it found.
-use Rattle.std.proofs.Common.{◌≡◌, ℕ, ◌+◌, ◌<◌, ◌≤◌, false, not, eqb, arith, lit≤}
+use Rattle.std.proofs.Common.{◌≡◌, ◌+◌, ◌<◌, ◌≤◌, false, not, eqb, arith, lit≤}
 use Rattle.std.proofs.lemmas.Bool.{or_parts, not-false, eqb-true}
-use Rattle.mos6502_parts.specs.declared.opcodes.Mode.{Mode}
 use Rattle.mos6502_parts.specs.declared.opcodes.Instruction.{Instruction}
 use Rattle.mos6502_parts.specs.declared.opcodes.Instruction.TheVariants.{Read, Store, Change, ChangeA, Branch, Jmp, JmpIndirect, Jsr, Implied, Undefined}
-use Rattle.mos6502_parts.specs.Opcodes.{operand_length, instruction_bytes}
+use Rattle.mos6502_parts.specs.Opcodes.{instruction_bytes}
 use Rattle.mos6502_core.specs.declared.cpu.Cpu.{Cpu}
 use Rattle.mos6502_core.specs.Instructions.{instruction, stepped, transfers}
 

@@ -1,5 +1,5 @@
 -- What instructions have in common.
-use Rattle.std.specs.Prelude.{ℕ, ◌+◌, ◌-◌, ◌*◌, ◌/◌, ◌%◌, true}
+use Rattle.std.specs.Prelude.{ℕ, ◌+◌, ◌*◌, ◌/◌, ◌%◌, true}
 use Rattle.mos6502_parts.specs.declared.arithmetic.Outcome.{Outcome}
 use Rattle.mos6502_parts.specs.Flags.{flags_of, judged, with_i}
 use Rattle.mos6502_parts.specs.Memory.{byte_at, word_at, stored}

@@ -1,5 +1,5 @@
 -- The arithmetic of the processor. Each operation gives a result and the flags after it.
-use Rattle.std.specs.Prelude.{ℕ, ◌+◌, ◌-◌, ◌*◌, ◌/◌, ◌%◌, Bool, true, false, cond, not, ◌&&◌, ◌==◌, bit_and, nat_le}
+use Rattle.std.specs.Prelude.{ℕ, ◌+◌, ◌-◌, ◌*◌, ◌/◌, ◌%◌, Bool, cond, not, ◌&&◌, ◌==◌, bit_and, nat_le}
 use Rattle.mos6502_parts.specs.declared.flags.Flags.{Flags}
 use Rattle.mos6502_parts.specs.declared.arithmetic.Outcome.{Outcome}
 use Rattle.mos6502_parts.specs.declared.opcodes.ChangeOp.{ChangeOp}

@@ -2,15 +2,10 @@
 use Rattle.std.specs.Prelude.{ℕ, ◌+◌, cond, List, [], ◌∷◌, ◌==◌}
 use Rattle.mos6502_parts.specs.declared.opcodes.Mode.{Mode}
 use Rattle.mos6502_parts.specs.declared.opcodes.Mode.TheVariants.{Immediate, ZeroPage, ZeroPageX, ZeroPageY, Absolute, AbsoluteX, AbsoluteY, IndexedIndirect, IndirectIndexed}
-use Rattle.mos6502_parts.specs.declared.opcodes.ReadOp.{ReadOp}
 use Rattle.mos6502_parts.specs.declared.opcodes.ReadOp.TheVariants.{Adc, And, Bit, Cmp, Cpx, Cpy, Eor, Lda, Ldx, Ldy, Ora, Sbc}
-use Rattle.mos6502_parts.specs.declared.opcodes.StoreOp.{StoreOp}
 use Rattle.mos6502_parts.specs.declared.opcodes.StoreOp.TheVariants.{Sta, Stx, Sty}
-use Rattle.mos6502_parts.specs.declared.opcodes.ChangeOp.{ChangeOp}
 use Rattle.mos6502_parts.specs.declared.opcodes.ChangeOp.TheVariants.{Asl, Dec, Inc, Lsr, Rol, Ror}
-use Rattle.mos6502_parts.specs.declared.opcodes.BranchOp.{BranchOp}
 use Rattle.mos6502_parts.specs.declared.opcodes.BranchOp.TheVariants.{Bcc, Bcs, Beq, Bmi, Bne, Bpl, Bvc, Bvs}
-use Rattle.mos6502_parts.specs.declared.opcodes.ImpliedOp.{ImpliedOp}
 use Rattle.mos6502_parts.specs.declared.opcodes.ImpliedOp.TheVariants.{Brk, Clc, Cld, Cli, Clv, Dex, Dey, Inx, Iny, Nop, Pha, Php, Pla, Plp, Rti, Rts, Sec, Sed, Sei, Tax, Tay, Tsx, Txa, Txs, Tya}
 use Rattle.mos6502_parts.specs.declared.opcodes.Instruction.{Instruction}
 use Rattle.mos6502_parts.specs.declared.opcodes.Instruction.TheVariants.{Read, Store, Change, ChangeA, Branch, Jmp, JmpIndirect, Jsr, Implied, Undefined}

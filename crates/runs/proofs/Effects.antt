@@ -1,12 +1,12 @@
 -- What a call does to a session, by the sort of the call.
-use Rattle.std.proofs.Common.{◌≡◌, ℕ, ◌+◌, ◌-◌, ◌≤◌, true, false, ◌⊎◌, List, [], ◌∷◌, ◌++◌, length, replicate, sym, refl, ap, ◌∙◌, subst, inl, inr, append-nil, arith, length-append}
+use Rattle.std.proofs.Common.{◌≡◌, ℕ, ◌+◌, ◌-◌, ◌≤◌, true, false, ◌⊎◌, List, [], ◌∷◌, ◌++◌, length, replicate, sym, refl, ap, ◌∙◌, inl, inr, append-nil, arith, length-append}
 use Rattle.machine.specs.Kinds.{Kind}
 use Rattle.landmark.specs.Markings.{Marking}
 use Rattle.faults.specs.declared.SessionFault.{SessionFault}
 use Rattle.runs.specs.Runs.{Act, instruction, taking, Run, at, units, longer}
 use Rattle.runs.specs.Lamps.{Among}
 use Rattle.runs.specs.Tells.{Tells}
-use Rattle.runs.specs.Sessions.{Mode, recording, replaying, State, Call, RunFor, Interrupt, Keep, Finish, Resume, Seek, Back, Forward, Trail, Write, Show, Load, Memory, supplied, Answer, done, count, listed, written, shown, refused, latest, moved, grown, Does, Consistent}
+use Rattle.runs.specs.Sessions.{Mode, recording, replaying, State, Call, RunFor, Interrupt, Keep, Finish, Resume, Seek, Back, Forward, Trail, Write, Show, Load, Memory, supplied, Answer, done, count, refused, latest, moved, grown, Does, Consistent}
 use Rattle.runs.specs.Traces.{Sort, records, resumes, moves, keeps, looks, turns, loads, sort, succeeded, counted, recorded, turned, Stays, KeepsAll, Allowed}
 
 pub refused_count : {f : SessionFault} {m : Memory} {n : ℕ} → refused f m ≡ count n → ⊥

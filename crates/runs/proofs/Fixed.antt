@@ -1,8 +1,8 @@
 -- A history is fixed by its calls; and the history that records a run.
-use Rattle.std.proofs.Common.{◌≡◌, ℕ, ◌+◌, List, [], ◌∷◌, ◌++◌, sym, refl, ap, ◌∙◌, subst, inl, inr, append-nil, arith, length-append}
+use Rattle.std.proofs.Common.{◌≡◌, ℕ, ◌+◌, List, [], ◌∷◌, sym, refl, ◌∙◌, subst, inl, inr, append-nil, arith, length-append}
 use Rattle.machine.specs.Kinds.{Kind, MachineLaws}
 use Rattle.landmark.specs.Markings.{Marking, LandmarkLaws}
-use Rattle.runs.specs.Runs.{Act, instruction, taking, Run, IsRun, units, event_count, longer}
+use Rattle.runs.specs.Runs.{Act, instruction, taking, Run, IsRun, units, longer}
 use Rattle.runs.specs.Sessions.{State, recording, replaying, Call, RunFor, Interrupt, Finish, Answer, done, count, Does, grown, opened, Consistent}
 use Rattle.runs.specs.Traces.{Trace, Leads, none, then, sort, loads, WithoutLoad}
 use Rattle.runs.specs.Theorems.{calls, EveryHistoryIsFixed}

@@ -1,19 +1,17 @@
 -- A file is refused by one of the first eight checks exactly where the sentences before it hold and its own breaks first at that place.
-use Rattle.std.proofs.Common.{◌≡◌, ℕ, zero, suc, ◌+◌, ◌-◌, ◌*◌, ◌<◌, ◌≤◌, Bool, true, false, cond, eqb, leb, ◌⊎◌, List, length, get_or, drop, sym, refl, ap, ◌∙◌, subst, inl, inr, arith, eq-eqb, ne_eqb, eqb-true, le-leb, leb-false, leb-true}
+use Rattle.std.proofs.Common.{◌≡◌, ℕ, zero, suc, ◌+◌, ◌-◌, ◌*◌, ◌<◌, ◌≤◌, Bool, true, false, cond, eqb, leb, ◌⊎◌, List, length, get_or, drop, sym, refl, ap, subst, inl, inr, arith, eq-eqb, ne_eqb, eqb-true, le-leb, leb-false, leb-true}
 use borrow.Author.Tests.{both_ways, eqb-false}
-use Rattle.machine.specs.declared.GuestFault.{GuestFault}
 use Rattle.machine.specs.declared.GuestFault.TheVariants.{WrongLength, Unlawful, ShortBuffer}
 use Rattle.machine.specs.Kinds.{Kind}
 use Rattle.landmark.specs.Markings.{Marking, most_units}
 use Rattle.faults.specs.declared.EntryAt.{EntryAt}
 use Rattle.faults.specs.declared.FileFault.{FileFault}
 use Rattle.faults.specs.declared.FileFault.TheVariants.{Truncated, Version, StatedLength, GuestByte, LandmarkByte, InImage, Extent, EventBytes, UnknownCode}
-use Rattle.faults.specs.declared.SessionFault.{SessionFault}
-use Rattle.faults.specs.declared.SessionFault.TheVariants.{InFile, Unreached}
+use Rattle.faults.specs.declared.SessionFault.TheVariants.{InFile}
 use Rattle.faults.specs.Refusals.{file_refusal}
-use Rattle.runs.specs.Runs.{Run, first}
-use Rattle.runs.specs.Checks.{Verdict, ok, wrong, Finding, passed, failed, unless, first_failed, passing, Found, found, lost, number_at, code_at, event_ok, image_of, count_of, event_place, entry, events_of, last_of, check_1, check_2, check_3, check_4, check_5, check_6, check_7, check_8, check_9, check_events, check_form, conclude, follow, verdict}
-use Rattle.runs.specs.Forms.{LongEnough, RightVersion, RightLength, RightGuest, RightLandmark, RightImageLength, RightExtent, LawfulImage, RightEvent, RightCode, RightBefore, HoldsBelow, BreaksImage, Breaks}
+use Rattle.runs.specs.Runs.{first}
+use Rattle.runs.specs.Checks.{wrong, Finding, passed, failed, unless, first_failed, passing, Found, found, lost, number_at, code_at, event_ok, image_of, count_of, event_place, entry, events_of, last_of, check_1, check_2, check_3, check_4, check_5, check_6, check_7, check_8, check_9, check_events, check_form, conclude, follow, verdict}
+use Rattle.runs.specs.Forms.{LongEnough, RightVersion, RightLength, RightGuest, RightLandmark, RightImageLength, RightExtent, LawfulImage, RightEvent, RightCode, RightBefore, HoldsBelow, Breaks}
 use Rattle.runs.specs.Theorems.{EveryFaultIsFirst}
 use Rattle.runs.proofs.Tell.{le_or_lt}
 

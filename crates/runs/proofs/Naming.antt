@@ -4,7 +4,7 @@ use Rattle.machine.specs.Kinds.{Kind}
 use Rattle.landmark.specs.declared.Code.{Code}
 use Rattle.landmark.specs.Branch.{branching}
 use Rattle.landmark.specs.Count.{counting}
-use Rattle.runs.specs.Runs.{Act, instruction, taking, Run, Moment, IsRun, first, advance, moment_after, at, units}
+use Rattle.runs.specs.Runs.{Act, Moment, IsRun, first, advance, moment_after, at}
 use Rattle.runs.specs.Landmarks.{is_transfer, transfers_from, transfers_in, EveryLandmarkIsTold}
 use Rattle.runs.proofs.Moves.{mark_advance}
 

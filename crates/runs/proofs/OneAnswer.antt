@@ -7,7 +7,7 @@ use Rattle.machine.specs.Kinds.{Kind, MachineLaws}
 use Rattle.landmark.specs.Markings.{Marking, LandmarkLaws, most_units}
 use Rattle.runs.specs.Runs.{Act, instruction, taking, Run, Moment, IsRun, first, at, units, event_count, longer, ends_stopped}
 use Rattle.runs.specs.Checks.{ok, wrong}
-use Rattle.runs.specs.Sessions.{State, Call, RunFor, Interrupt, Keep, Finish, Resume, Seek, Back, Forward, Trail, Write, Show, Load, Answer, count, refused, nothing, Does, grown, opened, Consistent}
+use Rattle.runs.specs.Sessions.{State, Call, RunFor, Interrupt, Keep, Finish, Resume, Seek, Back, Forward, Trail, Write, Show, Load, Answer, count, refused, nothing, Does, grown, Consistent}
 use Rattle.faults.specs.declared.SessionFault.{SessionFault}
 use Rattle.faults.specs.declared.SessionFault.TheVariants.{Stopped, RunFull, JournalFull, NotReady}
 use Rattle.runs.proofs.Moves.{at_end, goes_back}

@@ -1,5 +1,5 @@
 -- The samples keep the laws.
-use Rattle.std.proofs.Common.{◌≡◌, ℕ, zero, suc, ◌+◌, ◌<◌, ◌≤◌, Bool, true, false, List, [], ◌∷◌, length, get_or, Less, sym, refl, ap, ◌∙◌, arith}
+use Rattle.std.proofs.Common.{◌≡◌, ℕ, zero, suc, ◌<◌, ◌≤◌, Bool, true, List, [], ◌∷◌, length, get_or, Less, sym, refl, ap, ◌∙◌, arith}
 use Rattle.std.proofs.lemmas.Bool.Decides.{nat_tests}
 use Rattle.machine.specs.declared.Event.{Event}
 use Rattle.machine.specs.declared.Event.TheVariants.{Timer, Switch}
@@ -11,7 +11,7 @@ use Rattle.landmark.specs.Orders.{major_first}
 use Rattle.landmark.specs.Branches.{branching_laws}
 use Rattle.landmark.specs.Counts.{counting_laws}
 use Rattle.landmark.specs.OrdersLemmas.{order_same, order_self, order_mirror, order_back, order_carries}
-use Rattle.runs.specs.Samples.{one_byte, data_of, counter, latch, brick, countdown, LawsAreKept}
+use Rattle.runs.specs.Samples.{one_byte, counter, latch, brick, countdown, LawsAreKept}
 
 -- one byte
 byte_list : (i : List ℕ) → length i ≡ 1 → get_or i 0 0 < 256 → Bytes i

@@ -11,7 +11,7 @@ use Rattle.runs.specs.Runs.{instruction, Run, Moment, IsRun, first, at, units, e
 use Rattle.runs.specs.Lamps.{trail_of, Among}
 use Rattle.runs.specs.Files.{file_of}
 use Rattle.runs.specs.Checks.{Verdict, ok, wrong, verdict}
-use Rattle.runs.specs.Sessions.{State, recording, replaying, Call, RunFor, Interrupt, Keep, Finish, Resume, Seek, Back, Forward, Trail, Write, Show, Load, Answer, count, done, Does, grown, opened, Consistent}
+use Rattle.runs.specs.Sessions.{State, recording, replaying, Call, RunFor, Interrupt, Keep, Finish, Resume, Seek, Back, Forward, Trail, Write, Show, Load, Answer, count, done, Does, grown, Consistent}
 use Rattle.runs.specs.Traces.{Allowed, Given}
 use Rattle.runs.proofs.Moves.{at_end, goes_append, event_count_append}
 use Rattle.runs.proofs.Tell.{le_or_lt, same_code_true, code_differs}

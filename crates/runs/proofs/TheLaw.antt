@@ -15,8 +15,8 @@ use Rattle.runs.specs.Files.{file_of}
 use Rattle.runs.specs.Checks.{ok, wrong, verdict}
 use Rattle.runs.specs.Tells.{Tells}
 use Rattle.runs.specs.Sessions.{Mode, State, Call, RunFor, Interrupt, Keep, Seek, Trail, Write, Show, Load, Memory, entries, bytes, supplied, Answer, done, count, listed, written, shown, refused, latest, Does, opened, Consistent}
-use Rattle.runs.specs.Traces.{Trace, TraceOf, Leads, sort, moves, looks, succeeded, WithoutLoad, mode_of, Allowed, Given, RunOf, UnitOf, at_sought, KeptOf}
-use Rattle.runs.specs.Law.{Latest, WouldWrite, Law, EveryKindKeepsTheLaw}
+use Rattle.runs.specs.Traces.{Trace, TraceOf, Leads, sort, moves, looks, succeeded, WithoutLoad, Allowed, RunOf, UnitOf, at_sought, KeptOf}
+use Rattle.runs.specs.Law.{Latest, WouldWrite, EveryKindKeepsTheLaw}
 use Rattle.runs.proofs.Rising.{one_moment_of}
 use Rattle.runs.proofs.Bytes.{tells_file, file_determines}
 use Rattle.runs.proofs.Tell.{le_or_lt}

@@ -1,13 +1,12 @@
 -- A trace tells the run, the present unit, the kept units and the mode of the session that its calls lead to, and no others.
-use Rattle.std.proofs.Common.{◌≡◌, ℕ, ◌+◌, ◌-◌, ◌≤◌, true, false, ◌⊎◌, List, [], ◌∷◌, ◌++◌, sym, refl, ap, ◌∙◌, subst, inl, inr, append_assoc, append-nil, arith}
+use Rattle.std.proofs.Common.{◌≡◌, ℕ, ◌≤◌, true, false, ◌⊎◌, List, [], ◌∷◌, ◌++◌, sym, refl, ap, ◌∙◌, subst, inl, inr, append_assoc, append-nil, arith}
 use Rattle.machine.specs.Kinds.{Kind, MachineLaws}
-use Rattle.landmark.specs.declared.Code.{Code}
 use Rattle.landmark.specs.Markings.{Marking, LandmarkLaws}
-use Rattle.runs.specs.Runs.{Act, Run, at, units, longer}
+use Rattle.runs.specs.Runs.{Run, at, units, longer}
 use Rattle.runs.specs.Lamps.{Among}
 use Rattle.runs.specs.Tells.{Tells}
 use Rattle.runs.specs.Sessions.{Mode, recording, State, Call, RunFor, Interrupt, Keep, Finish, Resume, Seek, Back, Forward, Trail, Write, Show, Load, Answer, done, count, Does, opened, Consistent}
-use Rattle.runs.specs.Traces.{Exchange, Trace, Leads, none, then, succeeded, records, sort, loads, recorded, added, LoadedNone, turned, mode_from, KeepsAll, Allowed, RunOf, begun, last_loaded, UnitOf, at_first, at_load, at_recorded, at_resumed, at_sought, at_back, at_forward, left_at, KeptOf, kept_first, kept_load, kept_new, kept_already, kept_same}
+use Rattle.runs.specs.Traces.{Trace, Leads, none, then, succeeded, records, sort, loads, recorded, added, LoadedNone, turned, mode_from, KeepsAll, Allowed, RunOf, begun, last_loaded, UnitOf, at_first, at_load, at_recorded, at_resumed, at_sought, at_back, at_forward, left_at, KeptOf, kept_first, kept_load, kept_new, kept_already, kept_same}
 use Rattle.runs.proofs.Rising.{one_moment_of}
 use Rattle.runs.proofs.Bytes.{tells_file, file_determines}
 use Rattle.runs.proofs.Sessions.{opened_stands, does_stands, longer_more}

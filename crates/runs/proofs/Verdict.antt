@@ -3,10 +3,9 @@ use Rattle.std.proofs.Common.{◌≡◌, ℕ, zero, suc, ◌+◌, ◌-◌, ◌*�
 use lib.Seq.{take-length}
 use Rattle.std.proofs.lemmas.List.{take-take}
 use Rattle.landmark.specs.declared.Code.{Code}
-use Rattle.machine.specs.declared.GuestFault.TheVariants.{WrongLength, Unlawful}
 use Rattle.faults.specs.declared.EntryAt.{EntryAt}
 use Rattle.faults.specs.declared.FileFault.{FileFault}
-use Rattle.faults.specs.declared.FileFault.TheVariants.{Truncated, Version, StatedLength, GuestByte, LandmarkByte, InImage, Extent, EventBytes, UnknownCode}
+use Rattle.faults.specs.declared.FileFault.TheVariants.{GuestByte, LandmarkByte, Extent, EventBytes, UnknownCode}
 use Rattle.faults.specs.declared.SessionFault.{SessionFault}
 use Rattle.faults.specs.declared.SessionFault.TheVariants.{InFile, OfGuest, Unreached, Stopped, RunFull, JournalFull, NotReady, KeptFull, NoSuchMoment, OutsideRun, ShortMemory}
 use Rattle.machine.specs.Bytes.{Bytes}

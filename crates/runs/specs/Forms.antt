@@ -4,7 +4,6 @@ use Rattle.machine.specs.declared.GuestFault.{GuestFault}
 use Rattle.machine.specs.declared.GuestFault.TheVariants.{WrongLength, Unlawful, ShortBuffer}
 use Rattle.machine.specs.Kinds.{Kind}
 use Rattle.landmark.specs.Markings.{Marking}
-use Rattle.faults.specs.declared.EntryAt.{EntryAt}
 use Rattle.faults.specs.declared.FileFault.{FileFault}
 use Rattle.faults.specs.declared.FileFault.TheVariants.{Truncated, Version, StatedLength, GuestByte, LandmarkByte, InImage, Extent, EventBytes, UnknownCode}
 use Rattle.runs.specs.Checks.{number_at, code_at, image_of, count_of, event_place, entry}

@@ -1,5 +1,5 @@
 -- The lamp changes of a run.
-use Rattle.std.specs.Prelude.{◌≡◌, ℕ, ◌+◌, ◌<◌, ◌≤◌, cond, ◌⊎◌, List, [], ◌∷◌, take, ◌==◌}
+use Rattle.std.specs.Prelude.{◌≡◌, ℕ, ◌+◌, ◌<◌, cond, ◌⊎◌, List, [], ◌∷◌, take, ◌==◌}
 use Rattle.machine.specs.Kinds.{Kind}
 use Rattle.landmark.specs.Markings.{Marking}
 use Rattle.runs.specs.declared.LampChange.{LampChange}

@@ -3,7 +3,6 @@ use Rattle.std.specs.Prelude.{ℕ, ◌+◌, ◌-◌, ◌%◌, Bool, true, false,
 use Rattle.machine.specs.declared.Event.{Event}
 use Rattle.machine.specs.declared.Event.TheVariants.{Timer, Switch}
 use Rattle.machine.specs.Kinds.{Kind, MachineLaws}
-use Rattle.landmark.specs.declared.Code.{Code}
 use Rattle.landmark.specs.Markings.{Marking, LandmarkLaws}
 use Rattle.landmark.specs.Orders.{major_first}
 use Rattle.landmark.specs.Branch.{branching}

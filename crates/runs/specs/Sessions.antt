@@ -1,5 +1,5 @@
 -- Sessions: what each call answers, and to which run and moment it leads.
-use Rattle.std.specs.Prelude.{◌≡◌, ℕ, ◌+◌, ◌-◌, ◌<◌, ◌≤◌, max, Bool, true, false, cond, ◌⊎◌, List, [], ◌∷◌, ◌++◌, length, replicate, nat_le}
+use Rattle.std.specs.Prelude.{◌≡◌, ℕ, ◌+◌, ◌-◌, ◌<◌, ◌≤◌, max, true, false, cond, ◌⊎◌, List, [], ◌∷◌, ◌++◌, length, replicate, nat_le}
 use Rattle.machine.specs.declared.Event.{Event}
 use Rattle.machine.specs.declared.GuestFault.TheVariants.{ShortBuffer}
 use Rattle.machine.specs.Bytes.{over}

@@ -1,5 +1,5 @@
 -- From what an instruction or an event does to the core, to what it does to the image.
-use Rattle.std.proofs.Common.{◌≡◌, ℕ, Bool, true, false, cond, not, ◌&&◌, List, Some, None, Option, sym, refl, ap, ◌∙◌}
+use Rattle.std.proofs.Common.{◌≡◌, ℕ, Bool, true, false, List, Some, None, sym, ap, ◌∙◌}
 use Rattle.std.proofs.lemmas.Bool.{cond-true, cond-false}
 use Rattle.machine.specs.declared.Event.{Event}
 use Rattle.machine.specs.Faults.{step_answer, stepped as next_image}

@@ -1,5 +1,5 @@
 -- What a check of bytes finds: the first thing wrong, or a lawful image.
-use Rattle.std.proofs.Common.{◌≡◌, ℕ, ◌<◌, Bool, true, false, cond, not, ◌&&◌, eqb, List, length, get_or, sym, refl, ap, ◌∙◌}
+use Rattle.std.proofs.Common.{◌≡◌, ℕ, ◌<◌, Bool, true, false, cond, not, ◌&&◌, eqb, List, length, get_or, sym, ap, ◌∙◌}
 use Rattle.std.proofs.lemmas.Bool.{and_left, and_right, and_from, eq-eqb, ne_eqb, cond-true, cond-false}
 use Rattle.machine.specs.declared.GuestFault.{GuestFault}
 use Rattle.machine.specs.declared.GuestFault.TheVariants.{WrongLength, Unlawful}

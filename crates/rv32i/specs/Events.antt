@@ -1,5 +1,5 @@
 -- What an event does to the core that takes it.
-use Rattle.std.specs.Prelude.{ℕ, Bool, false, not, ◌&&◌}
+use Rattle.std.specs.Prelude.{ℕ, false}
 use Rattle.machine.specs.declared.Event.{Event}
 use Rattle.machine.specs.declared.Event.TheVariants.{Timer, Switch}
 use Rattle.rv32i_core.specs.declared.bus.Bus.{Bus}

@@ -1,8 +1,6 @@
 -- The image of a core: a list of 4,232 bytes.
-use Rattle.std.specs.Prelude.{◌≡◌, ℕ, ◌+◌, ◌*◌, ◌/◌, ◌%◌, ◌^◌, ◌<◌, Bool, true, false, cond, not, ◌&&◌, List, [], ◌∷◌, ◌++◌, map, length, take, drop, replicate, ◌==◌, nat_lt, slice_index}
+use Rattle.std.specs.Prelude.{◌≡◌, ℕ, ◌+◌, ◌*◌, ◌/◌, ◌%◌, ◌^◌, ◌<◌, Bool, true, cond, not, ◌&&◌, List, [], ◌∷◌, ◌++◌, map, length, take, drop, replicate, ◌==◌, nat_lt, slice_index}
 use Rattle.std.specs.List.{range_with_len}
-use Rattle.rv32i_core.specs.declared.bus.Bus.{Bus}
-use Rattle.rv32i_core.specs.declared.registers.Registers.{Registers}
 use Rattle.rv32i_core.specs.declared.state.State.{State}
 use Rattle.rv32i_core.specs.Words.{truth}
 

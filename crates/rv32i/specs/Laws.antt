@@ -1,20 +1,19 @@
 -- The laws of the kind.
-use Rattle.std.specs.Prelude.{◌≡◌, ℕ, ◌+◌, ◌*◌, ◌%◌, ◌^◌, ◌<◌, ◌≤◌, Bool, true, false, cond, not, ◌&&◌, ◌||◌, List, [], ◌∷◌, ◌++◌, length, drop, ◌==◌, slice_index, slice_index_or, refl}
-use Rattle.std.proofs.Common.{sym, ap, ◌∙◌, arith, length-append, length-take, length-drop}
+use Rattle.std.specs.Prelude.{◌≡◌, ℕ, ◌+◌, ◌%◌, ◌^◌, ◌<◌, Bool, true, false, not, ◌&&◌, ◌||◌, List, [], ◌∷◌, ◌++◌, length, drop, ◌==◌, slice_index, slice_index_or, refl}
+use Rattle.std.proofs.Common.{ap, ◌∙◌, arith, length-append, length-take, length-drop}
 use Rattle.std.proofs.lemmas.Bool.Decides.{nat_tests}
-use Rattle.std.proofs.lemmas.Bool.{and_parts, and_from, and_right, eqb-true, eq-eqb, ltb-true, lt-ltb, not-false, ltb-false}
+use Rattle.std.proofs.lemmas.Bool.{and_parts, and_from, and_right, eqb-true, eq-eqb, ltb-true, lt-ltb, not-false}
 use Rattle.machine.specs.declared.Event.{Event}
-use Rattle.machine.specs.Bytes.{Bytes}
 use Rattle.machine.specs.Kinds.{Fits, Rises, ImageLaws}
 use Rattle.rv32i_core.specs.declared.state.State.{State}
 use Rattle.rv32i_core.specs.Words.{truth}
-use Rattle.rv32i_core.specs.Execution.{stepped, elsewhere, transfers}
+use Rattle.rv32i_core.specs.Execution.{stepped, elsewhere}
 use Rattle.rv32i.specs.Images.{high_first, words, image_of, word_in, words_in, place_in, saved_in, core_of, aligned, flag, bytes, well_formed, offending, lawful, blank, stopped_in, enabled_in}
 use Rattle.rv32i.specs.Guest.{next, moves, taken, rv32i}
 use Rattle.rv32i.specs.Events.{interrupted}
-use Rattle.rv32i.specs.Bytes.{byte_at, bytes_from, bytes_append, bytes_take, bytes_drop, bytes_four, bytes_word, bytes_words}
+use Rattle.rv32i.specs.Bytes.{byte_at, bytes_append, bytes_take, bytes_drop, bytes_four, bytes_word, bytes_words}
 use Rattle.rv32i.specs.ImagesLemmas.{front_length, byte_behind, place_told, saved_told, image_told}
-use Rattle.rv32i.specs.Soundness.{Sound, SoundBus, on_stepped, on_interrupted}
+use Rattle.rv32i.specs.Soundness.{Sound, on_stepped, on_interrupted}
 
 -- what a lawful image is
 pub record Lawful (i : List ℕ) : Type 0 where

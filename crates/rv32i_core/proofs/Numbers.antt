@@ -1,5 +1,5 @@
 -- Facts of numbers: sign extension by way of signed numbers, and bit 0.
-use Rattle.std.proofs.Common.{◌≡◌, ℕ, ◌*◌, ◌/◌, ◌%◌, ◌^◌, ◌<◌, ℤ, sym, ap, ◌∙◌, arith, w8, w16, w32, SFits, to_z, of_z}
+use Rattle.std.proofs.Common.{◌≡◌, ℕ, ◌*◌, ◌/◌, ◌%◌, ◌^◌, ◌<◌, ℤ, ap, ◌∙◌, arith, w8, w16, w32, SFits, to_z, of_z}
 use lib.Bits.{bit_and}
 use Rattle.std.proofs.lemmas.Nat.{and_shr, and_mod, and_mask, and_comm}
 use Rattle.std.proofs.lemmas.Int.{ints, to_z-of_z, of_z-to_z}

@@ -1,11 +1,8 @@
 -- What the report says of its input.
 use Rattle.std.specs.Prelude.{ℕ, cond, List, ◌++◌, length, Some, None, codes, decimal, Option, ◌==◌, nat_le, slice_index}
-use Rattle.faults.specs.declared.EntryAt.{EntryAt}
-use Rattle.faults.specs.declared.FileFault.{FileFault}
 use Rattle.faults.specs.declared.FileFault.TheVariants.{StatedLength}
 use Rattle.faults.specs.declared.Place.{Place}
 use Rattle.faults.specs.declared.Place.TheVariants.{At, Entry, Mark as MarkAt}
-use Rattle.faults.specs.declared.Refusal.{Refusal}
 use Rattle.faults.specs.Refusals.{file_refusal}
 use Rattle.recording.specs.Starts.{start_check}
 use Rattle.runs.specs.Checks.{Finding, passed, failed}
@@ -14,7 +11,6 @@ use Rattle.summary.specs.declared.Guest.TheVariants.{Mos6502, Rv32i}
 use Rattle.summary.specs.declared.Mark.{Mark}
 use Rattle.summary.specs.declared.Mark.TheVariants.{Count, Branch}
 use Rattle.summary.specs.declared.Kinds.{Kinds}
-use Rattle.summary.specs.declared.Opening.{Opening}
 use Rattle.summary.specs.declared.Summary.{Summary}
 use Rattle.summary.specs.declared.Summary.TheVariants.{Recording, Refused}
 

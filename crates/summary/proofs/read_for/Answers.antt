@@ -1,10 +1,9 @@
-use Rattle.std.proofs.Common.{◌≡◌, ℕ, List, length, Err, sym, ap, ◌∙◌}
+use Rattle.std.proofs.Common.{◌≡◌, ℕ, List, length, Err, ap, ◌∙◌}
 use Rattle.faults.specs.declared.FileFault.{FileFault}
-use Rattle.faults.specs.declared.Refusal.{Refusal}
 use Rattle.recording.specs.Starts.{answer_of, start_check}
 use Rattle.summary.specs.declared.Kinds.{Kinds}
 use Rattle.summary.specs.declared.Summary.TheVariants.{Refused}
-use Rattle.summary.specs.Summaries.{guest_byte, mark_byte, summary_for}
+use Rattle.summary.specs.Summaries.{guest_byte, mark_byte}
 use Rattle.summary.proofs.Founds.{found_err}
 use Rattle.summary.proofs.read_for.Goals as goal
 

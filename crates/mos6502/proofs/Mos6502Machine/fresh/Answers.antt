@@ -1,4 +1,4 @@
-use Rattle.std.proofs.Common.{◌≡◌, refl}
+use Rattle.std.proofs.Common.{refl}
 use Rattle.mos6502.specs.Images.{image_of, lawful_image}
 use Rattle.mos6502.proofs.Mos6502Machine.fresh.Goals as goal
 

@@ -1,4 +1,4 @@
-use Rattle.std.proofs.Common.{◌≡◌, ℕ, Bool, true, false, cond, List, Ok, Err, Result, sym, refl, ap, ◌∙◌, subst, arith}
+use Rattle.std.proofs.Common.{◌≡◌, ℕ, Bool, true, false, cond, Ok, Err, Result, sym, refl, ap, ◌∙◌, arith}
 use Rattle.machine.specs.declared.GuestFault.{GuestFault}
 use Rattle.mos6502_core.specs.declared.cpu.Cpu.{Cpu}
 use Rattle.mos6502.specs.Images.{image_of, cpu_of, lawful_image}

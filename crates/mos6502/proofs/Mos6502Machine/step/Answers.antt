@@ -1,4 +1,4 @@
-use Rattle.std.proofs.Common.{◌≡◌, Bool, Some, sym, refl, ap, ◌∙◌}
+use Rattle.std.proofs.Common.{Bool, Some, sym, refl, ap, ◌∙◌}
 use Rattle.std.proofs.lemmas.Bool.{cond-true, cond-false, both_ways}
 use Rattle.mos6502_core.specs.Instructions.{stepped, transfers}
 use Rattle.mos6502_core.proofs.Keeps.{stepped_kept}

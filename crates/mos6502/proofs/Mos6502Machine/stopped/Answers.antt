@@ -1,4 +1,4 @@
-use Rattle.std.proofs.Common.{◌≡◌, sym, ap, ◌∙◌}
+use Rattle.std.proofs.Common.{sym, ap}
 use Rattle.mos6502_core.specs.declared.cpu.Cpu.{Cpu}
 use Rattle.mos6502.specs.Back.{cpu_image}
 use Rattle.mos6502.proofs.Mos6502Machine.stopped.Goals as goal

@@ -1,4 +1,4 @@
-use Rattle.std.proofs.Common.{◌≡◌, ℕ, true, leb, List, length, sym, refl, ap, ◌∙◌, rules}
+use Rattle.std.proofs.Common.{◌≡◌, true, leb, length, sym, refl, ◌∙◌, rules}
 use Rattle.std.proofs.lemmas.Bool.{cond-true, le-leb}
 use Rattle.mos6502.specs.Images.{head_of, image_of}
 use Rattle.mos6502.proofs.Writes.{written}

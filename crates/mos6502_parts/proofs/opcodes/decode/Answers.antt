@@ -2,7 +2,7 @@ use Rattle.std.proofs.Common.{◌≡◌, ℕ, ◌<◌, List, map, get_or, refl, 
 use Rattle.std.specs.List.{range_with_len}
 use Rattle.std.proofs.lemmas.List.FromFn.{get_or-map-range_with_len}
 use Rattle.mos6502_parts.specs.declared.opcodes.Instruction.{Instruction}
-use Rattle.mos6502_parts.specs.Opcodes.{decoded, opcodes, listed}
+use Rattle.mos6502_parts.specs.Opcodes.{decoded}
 use Rattle.mos6502_parts.proofs.opcodes.decode.Goals as goal
 
 -- a matrix that lists what each byte stands for, from 0 to 255

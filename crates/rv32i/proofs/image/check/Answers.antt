@@ -1,5 +1,5 @@
-use Rattle.std.proofs.Common.{◌≡◌, ◌<◌, true, false, length, get_or, sym, ap, ◌∙◌, arith}
-use Rattle.rv32i.specs.Images.{place_in, saved_in, aligned, flag}
+use Rattle.std.proofs.Common.{◌≡◌, true, false, sym, ap, ◌∙◌}
+use Rattle.rv32i.specs.Images.{place_in, saved_in, aligned}
 use Rattle.rv32i.proofs.Verdicts.{wrong_length, bad_place, bad_saved, bad_enabled, bad_stopped, accepted}
 use Rattle.rv32i.proofs.image.check.Goals as goal
 

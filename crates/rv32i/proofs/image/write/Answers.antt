@@ -1,4 +1,4 @@
-use Rattle.std.proofs.Common.{◌≡◌, ◌*◌, [], ◌∷◌, ◌++◌, length, drop, refl, ap, ◌∙◌, rules}
+use Rattle.std.proofs.Common.{◌≡◌, ◌*◌, [], ◌∷◌, ◌++◌, length, drop, refl, ap, ◌∙◌}
 use Rattle.rv32i_core.specs.Words.{truth}
 use Rattle.rv32i.specs.Images.{image_of, words, high_first}
 use Rattle.rv32i.specs.Buffers.{all_put, length_words, byte_truth}

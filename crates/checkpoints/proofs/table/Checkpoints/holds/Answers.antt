@@ -1,4 +1,4 @@
-use Rattle.std.proofs.Common.{◌≡◌, ℕ, false, sym, ap, ◌∙◌, arith}
+use Rattle.std.proofs.Common.{◌≡◌, ℕ, sym, ap, ◌∙◌, arith}
 use Rattle.checkpoints.specs.Nearest.{has_unit}
 use Rattle.checkpoints.proofs.Lists.{rows_of, found_row, no_row}
 use Rattle.checkpoints.proofs.table.Checkpoints.holds.Goals as goal
