@@ -27,7 +27,7 @@ pub record State : Type 0 where
   pub present : ℕ
   pub kept : List ℕ
 
--- the calls, with what each brings: a count, an event, a code, or memory; Run-for is the call to carry out at most so many instructions
+-- the calls, with what each brings: a count, an event, a code, or memory; RunFor is the call to carry out at most so many instructions
 pub data Call : Type 0 where
   RunFor : ℕ → Call
   Interrupt : Event → Call
