@@ -1,11 +1,11 @@
 // The kept units of a session, each with what a replay needs to begin there.
 #![tactic(auto)]
 
-ghost use Rattle.std.specs.Prelude.{◌≡◌, ℕ, ◌<◌, ◌≤◌, false, List, [], ◌∷◌, length, if◌then◌else◌, nat_le, nat_lt};
+ghost use Rattle.std.specs.Prelude.{◌≡◌, false, [], ◌∷◌, length, if◌then◌else◌, nat_le, nat_lt};
 ghost use Rattle.machine.specs.Kinds.{Kind};
 ghost use Rattle.replay.specs.Cursors.{held};
 ghost use Rattle.replay.specs.Positions.{Position};
-ghost use Rattle.checkpoints.specs.Nearest.{is_not_past, closer, nearest, first_or, has_unit};
+ghost use Rattle.checkpoints.specs.Nearest.{is_not_past, nearest, first_or, has_unit};
 ghost use Rattle.checkpoints.specs.Rows.{kept, with_position, aim};
 
 use landmark::Landmark;

@@ -1,9 +1,9 @@
 // The branch kind: a landmark is the number of transfers since the start, with the place.
 
-ghost use Rattle.std.specs.Prelude.{◌≡◌, ◌<◌};
+ghost use Rattle.std.specs.Prelude.{◌<◌};
 ghost use Rattle.landmark.specs.Branch.{branching};
 ghost use Rattle.landmark.specs.Branches.{branching_laws};
-ghost use Rattle.std.proofs.Common.{rules, arith};
+ghost use Rattle.std.proofs.Common.{rules};
 
 use super::{Code, Landmark};
 use std::cmp::Ordering;

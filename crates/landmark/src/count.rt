@@ -1,9 +1,9 @@
 // The count kind: a landmark is the number of units since the start.
 
-ghost use Rattle.std.specs.Prelude.{◌≡◌, ◌<◌};
+ghost use Rattle.std.specs.Prelude.{◌<◌};
 ghost use Rattle.landmark.specs.Count.{counting};
 ghost use Rattle.landmark.specs.Counts.{counting_laws};
-ghost use Rattle.std.proofs.Common.{rules, arith};
+ghost use Rattle.std.proofs.Common.{rules};
 
 use super::{Code, Landmark};
 use std::cmp::Ordering;

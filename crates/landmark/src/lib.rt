@@ -1,7 +1,7 @@
 // The interface of a landmark, and its two kinds: the count of units, and the count of transfers with the place.
 #![tactic(auto)]
 
-ghost use Rattle.std.specs.Prelude.{◌≡◌, ℕ, true, is_some, IfSome};
+ghost use Rattle.std.specs.Prelude.{◌≡◌, true, is_some, IfSome};
 ghost use Rattle.landmark.specs.Markings.{Marking, LandmarkLaws, same_code};
 ghost use Rattle.landmark.specs.declared.Code.{Code};
 

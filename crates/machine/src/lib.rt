@@ -1,10 +1,9 @@
 // The interface of a guest: what the recorder knows of the machine whose run it records.
 #![tactic(auto)]
 
-ghost use Rattle.std.specs.Prelude.{◌≡◌, ℕ, Bool, true, false, List, length, is_ok, if◌then◌else◌, Some, None, MatchResult};
+ghost use Rattle.std.specs.Prelude.{◌≡◌, ℕ, true, false, List, is_ok, if◌then◌else◌, Some, None, MatchResult};
 ghost use Rattle.machine.specs.Kinds.{Kind, ImageLaws, Rises};
 ghost use Rattle.machine.specs.Faults.{load_fault, save_answer, saved, step_answer, stepped};
-ghost use Rattle.machine.specs.declared.Event.{Event};
 
 // What reaches a guest from outside: the timer, or a switch with a data byte.
 #[derive(Clone, Copy)]

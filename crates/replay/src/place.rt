@@ -1,6 +1,6 @@
 // A machine at a moment of a run, and a checkpoint from which it can be had again.
 
-ghost use Rattle.std.specs.Prelude.{◌≡◌, ◌<◌, length};
+ghost use Rattle.std.specs.Prelude.{◌≡◌, length};
 
 use landmark::{Code, Landmark};
 use machine::Machine;

@@ -1,6 +1,6 @@
 // From a core to its image and back.
 
-ghost use Rattle.std.specs.Prelude.{◌≡◌, ℕ, ◌+◌, ◌^◌, ◌<◌, ◌≤◌, Bool, ◌++◌, length, take, drop, is_ok, IfErr, slice_index};
+ghost use Rattle.std.specs.Prelude.{◌≡◌, ℕ, ◌+◌, ◌^◌, ◌<◌, ◌≤◌, ◌++◌, length, take, drop, is_ok, IfErr, slice_index};
 ghost use Rattle.machine.specs.Faults.{load_fault};
 ghost use Rattle.rv32i.specs.Images.{high_first, words, word_in, words_in, image_of, core_of, aligned, flag, lawful, Sized};
 ghost use Rattle.rv32i.specs.Guest.{rv32i};
