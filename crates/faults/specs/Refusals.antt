@@ -1,5 +1,6 @@
 -- The table of refusals: for each fault its number, its place and the layer that it comes from.
-use Rattle.std.specs.Prelude.{ℕ, ◌+◌}
+use Rattle.std.specs.Prelude.{ℕ, ◌+◌, List, decimal}
+use Rattle.landmark.specs.Codes.{told as code_told}
 use Rattle.machine.specs.declared.GuestFault.{GuestFault}
 use Rattle.machine.specs.declared.GuestFault.TheVariants.{WrongLength, Unlawful, ShortBuffer}
 use Rattle.faults.specs.declared.FileFault.{FileFault}
@@ -11,6 +12,12 @@ use Rattle.faults.specs.declared.Layer.TheVariants.{File, Guest, Landmark, Sessi
 use Rattle.faults.specs.declared.Place.{Place}
 use Rattle.faults.specs.declared.Place.TheVariants.{At, Entry, Mark}
 use Rattle.faults.specs.declared.Refusal.{Refusal}
+
+-- a place as it is printed
+abbrev pub told : Place → List ℕ
+told (At n) = decimal n
+told (Entry e) = decimal e.offset
+told (Mark c) = code_told c
 
 abbrev pub refusal : ℕ → Place → Layer → Refusal
 refusal number place layer = record { number = number; place = place; layer = layer }

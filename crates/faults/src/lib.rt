@@ -1,8 +1,8 @@
 // What a refused call reports. Each layer has its own faults, and keeps those of the layer below whole.
 #![tactic(auto)]
 
-ghost use Rattle.std.specs.Prelude.{◌≡◌};
-ghost use Rattle.faults.specs.Refusals.{refusal_of_guest, file_refusal, session_refusal};
+ghost use Rattle.std.specs.Prelude.{◌≡◌, Some};
+ghost use Rattle.faults.specs.Refusals.{told, refusal_of_guest, file_refusal, session_refusal};
 ghost use Rattle.faults.specs.declared.FileFault.TheVariants.{InImage};
 ghost use Rattle.faults.specs.declared.Layer.TheVariants.{File, Session};
 ghost use Rattle.faults.specs.declared.Place.TheVariants.{At, Entry};
@@ -10,6 +10,7 @@ ghost use Rattle.faults.specs.declared.SessionFault.TheVariants.{InFile, OfGuest
 
 use landmark::Code;
 use machine::GuestFault;
+use std::fmt;
 
 // The part of the recorder that found the fault.
 #[derive(Clone, Copy)]
@@ -78,19 +79,34 @@ pub enum SessionFault {
     ShortMemory(usize),
 }
 
+// An entry is told by its offset.
+impl fmt::Display for Place {
+    ghost output = { λ p. Some (told p) };
+
+    fn fmt<W: fmt::Write>(&self, f: &mut fmt::Formatter<W>) -> fmt::Result {
+        match *self {
+            Place::At(at) => write!(f, "{at}"),
+            Place::Entry(entry) => write!(f, "{}", entry.offset),
+            Place::Mark(code) => write!(f, "{code}"),
+        }
+    }
+}
+
 // A fault of the guest, reported by the guest itself.
-pub fn guest_refusal(fault: GuestFault) -> Refusal
-    ensures { result ≡ refusal_of_guest fault }
-{
-    let (number, at) = match fault {
-        GuestFault::WrongLength => (5, 0),
-        GuestFault::Unlawful(offset) => (7, offset as usize),
-        GuestFault::ShortBuffer(needed) => (17, needed),
-    };
-    Refusal {
-        number,
-        place: Place::At(at),
-        layer: Layer::Guest,
+impl From<GuestFault> for Refusal {
+    ghost from_gives = { λ f r. r ≡ refusal_of_guest f };
+
+    fn from(fault: GuestFault) -> Refusal {
+        let (number, at) = match fault {
+            GuestFault::WrongLength => (5, 0),
+            GuestFault::Unlawful(offset) => (7, usize::from(offset)),
+            GuestFault::ShortBuffer(needed) => (17, needed),
+        };
+        Refusal {
+            number,
+            place: Place::At(at),
+            layer: Layer::Guest,
+        }
     }
 }
 
@@ -98,16 +114,14 @@ pub fn guest_refusal(fault: GuestFault) -> Refusal
 fn image_refusal(fault: GuestFault) -> Refusal
     ensures { result ≡ file_refusal (InImage fault) }
 {
-    let whole = guest_refusal(fault);
     let at = match fault {
         GuestFault::WrongLength => 7,
-        GuestFault::Unlawful(offset) => 11 + offset as usize,
+        GuestFault::Unlawful(offset) => 11 + usize::from(offset),
         GuestFault::ShortBuffer(needed) => needed,
     };
     Refusal {
-        number: whole.number,
         place: Place::At(at),
-        layer: whole.layer,
+        ..Refusal::from(fault)
     }
 }
 
@@ -133,11 +147,11 @@ fn in_entry(entry: EntryAt, layer: Layer) -> Refusal
     }
 }
 
-impl FileFault {
-    pub fn refusal(self) -> Refusal
-        ensures { result ≡ file_refusal self }
-    {
-        match self {
+impl From<FileFault> for Refusal {
+    ghost from_gives = { λ f r. r ≡ file_refusal f };
+
+    fn from(fault: FileFault) -> Refusal {
+        match fault {
             FileFault::Truncated(length) => in_file(1, length),
             FileFault::Version => in_file(2, 0),
             FileFault::StatedLength => in_file(3, 1),
@@ -162,13 +176,13 @@ fn in_session(number: u8, place: Place) -> Refusal
     }
 }
 
-impl SessionFault {
-    pub fn refusal(self) -> Refusal
-        ensures { result ≡ session_refusal self }
-    {
-        match self {
-            SessionFault::InFile(found) => found.refusal(),
-            SessionFault::OfGuest(found) => guest_refusal(found),
+impl From<SessionFault> for Refusal {
+    ghost from_gives = { λ f r. r ≡ session_refusal f };
+
+    fn from(fault: SessionFault) -> Refusal {
+        match fault {
+            SessionFault::InFile(found) => found.into(),
+            SessionFault::OfGuest(found) => found.into(),
             SessionFault::Unreached(entry) => in_session(9, Place::Entry(entry)),
             SessionFault::Stopped(unit) => in_session(10, Place::At(unit as usize)),
             SessionFault::RunFull(unit) => in_session(11, Place::At(unit as usize)),

@@ -8,7 +8,7 @@ use Rattle.landmark.specs.declared.Code.{Code}
 use Rattle.landmark.specs.Markings.{LandmarkLaws, Climbs, Move, marked}
 use Rattle.landmark.specs.Orders.{major_first}
 use Rattle.landmark.specs.Branch.{branching}
-use Rattle.landmark.specs.OrdersLemmas.{order_same, order_self, order_mirror, order_back, order_carries}
+use Rattle.landmark.specs.OrderLaws.{order_same, order_self, order_mirror, order_back, order_carries}
 
 after_climbs : (c : Code) (p q : ℕ) (t : Bool) → c.minor ≡ p → c.major + 1 < 4294967296 → ∥ (t ≡ true) ⊎ (p < q) ∥₁ → major_first c (branching.after c q t) ≡ Less
 after_climbs c p q true e b h = grind (arith, nat_tests)

@@ -7,7 +7,7 @@ use Rattle.landmark.specs.declared.Code.{Code}
 use Rattle.landmark.specs.Markings.{LandmarkLaws, Move, marked}
 use Rattle.landmark.specs.Orders.{major_first}
 use Rattle.landmark.specs.Count.{counting}
-use Rattle.landmark.specs.OrdersLemmas.{order_same, order_self, order_mirror, order_back, order_carries}
+use Rattle.landmark.specs.OrderLaws.{order_same, order_self, order_mirror, order_back, order_carries}
 
 -- a count that has not come to its end rises by one
 count_climbs : (c : Code) (ms : List Move) (q : ℕ) (t : Bool) → c.major ≡ 0 → c.minor + length ms + 1 < 4294967296 → major_first (marked counting c ms) (counting.after (marked counting c ms) q t) ≡ Less

@@ -8,9 +8,6 @@ ghost use Rattle.std.proofs.Common.{rules};
 use super::{Code, Landmark};
 use std::cmp::Ordering;
 
-// The landmark byte of the kind.
-const BRANCH_BYTE: u8 = 2;
-
 #[derive(Clone, Copy)]
 pub struct Branch {
     transfers: u32,
@@ -24,13 +21,15 @@ impl Landmark for Branch {
 
     ghost meaning = { λ l. record { major = l.transfers; minor = l.place } };
 
+    const LANDMARK_BYTE: u8 = 2;
+
+    ghost LANDMARK_BYTE = { 2 };
+
+    ghost named = { Prim.search rules };
+
     ghost had = { Prim.search rules };
 
     ghost kept = { branching_laws };
-
-    fn byte() -> u8 {
-        BRANCH_BYTE
-    }
 
     fn start(place: u32) -> Branch {
         Branch {
@@ -40,26 +39,14 @@ impl Landmark for Branch {
     }
 
     fn after(self, place: u32, transfer: bool) -> Branch {
-        let transfers = if transfer && self.transfers < u32::MAX {
-            self.transfers + 1
-        } else {
-            self.transfers
-        };
-        Branch { transfers, place }
+        Branch {
+            transfers: self.transfers.saturating_add(u32::from(transfer)),
+            place,
+        }
     }
 
     fn compare(self, other: Branch) -> Ordering {
-        if self.transfers < other.transfers {
-            Ordering::Less
-        } else if other.transfers < self.transfers {
-            Ordering::Greater
-        } else if self.place < other.place {
-            Ordering::Less
-        } else if other.place < self.place {
-            Ordering::Greater
-        } else {
-            Ordering::Equal
-        }
+        self.code().cmp(&other.code())
     }
 
     fn code(self) -> Code {

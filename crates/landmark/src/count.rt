@@ -8,9 +8,6 @@ ghost use Rattle.std.proofs.Common.{rules};
 use super::{Code, Landmark};
 use std::cmp::Ordering;
 
-// The landmark byte of the kind.
-const COUNT_BYTE: u8 = 1;
-
 #[derive(Clone, Copy)]
 pub struct Count {
     units: u32,
@@ -22,35 +19,28 @@ impl Landmark for Count {
 
     ghost meaning = { λ l. record { major = 0; minor = l.units } };
 
+    const LANDMARK_BYTE: u8 = 1;
+
+    ghost LANDMARK_BYTE = { 1 };
+
+    ghost named = { Prim.search rules };
+
     ghost had = { Prim.search rules };
 
     ghost kept = { counting_laws };
-
-    fn byte() -> u8 {
-        COUNT_BYTE
-    }
 
     fn start(_place: u32) -> Count {
         Count { units: 0 }
     }
 
     fn after(self, _place: u32, _transfer: bool) -> Count {
-        let units = if self.units < u32::MAX {
-            self.units + 1
-        } else {
-            self.units
-        };
-        Count { units }
+        Count {
+            units: self.units.saturating_add(1),
+        }
     }
 
     fn compare(self, other: Count) -> Ordering {
-        if self.units < other.units {
-            Ordering::Less
-        } else if other.units < self.units {
-            Ordering::Greater
-        } else {
-            Ordering::Equal
-        }
+        self.code().cmp(&other.code())
     }
 
     fn code(self) -> Code {
@@ -61,10 +51,6 @@ impl Landmark for Count {
     }
 
     fn from_code(code: Code) -> Option<Count> {
-        if code.major == 0 {
-            Some(Count { units: code.minor })
-        } else {
-            None
-        }
+        (code.major == 0).then_some(Count { units: code.minor })
     }
 }

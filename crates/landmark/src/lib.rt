@@ -1,11 +1,13 @@
 // The interface of a landmark, and its two kinds: the count of units, and the count of transfers with the place.
 #![tactic(auto)]
 
-ghost use Rattle.std.specs.Prelude.{◌≡◌, true, is_some, IfSome};
-ghost use Rattle.landmark.specs.Markings.{Marking, LandmarkLaws, same_code};
+ghost use Rattle.std.specs.Prelude.{◌≡◌, ℕ, true, is_some, IfSome, Some};
+ghost use Rattle.landmark.specs.Markings.{Marking, LandmarkLaws};
+ghost use Rattle.landmark.specs.Codes.{told};
 ghost use Rattle.landmark.specs.declared.Code.{Code};
 
 use std::cmp::Ordering;
+use std::fmt;
 
 mod branch;
 mod count;
@@ -13,19 +15,19 @@ mod count;
 pub use branch::Branch;
 pub use count::Count;
 
-// What a landmark is written as: two words.
-#[derive(Clone, Copy)]
+// What a landmark is written as: two words. Codes are ordered by the major word, and where that is the same by the minor.
+#[derive(Clone, Copy, Debug, PartialEq, Eq, PartialOrd, Ord)]
 pub struct Code {
     pub major: u32,
     pub minor: u32,
 }
 
-impl Code {
-    // Whether the two codes are the same.
-    pub fn is(self, other: Code) -> bool
-        ensures { result ≡ same_code self other }
-    {
-        self.major == other.major && self.minor == other.minor
+impl fmt::Display for Code {
+    ghost output = { λ c. Some (told c) };
+
+    fn fmt<W: fmt::Write>(&self, f: &mut fmt::Formatter<W>) -> fmt::Result {
+        let Code { major, minor } = *self;
+        write!(f, "({major}, {minor})")
     }
 }
 
@@ -37,8 +39,9 @@ pub trait Landmark: Sized + Copy + Drop {
     ghost meaning: { Self → Code };
 
     // the landmark byte that names the kind in a recording
-    fn byte() -> u8
-        ensures { result ≡ marking.byte };
+    const LANDMARK_BYTE: u8;
+
+    ghost LANDMARK_BYTE: { ℕ };
 
     // the landmark of a run that begins at the place
     fn start(place: u32) -> Self
@@ -59,6 +62,9 @@ pub trait Landmark: Sized + Copy + Drop {
     fn from_code(code: Code) -> Option<Self>
         ensures had { is_some result ≡ marking.has code }
         ensures means { IfSome result (λ l. meaning l ≡ code) };
+
+    // the constant is the kind's number
+    ghost named: { LANDMARK_BYTE ≡ marking.byte };
 
     // each landmark's code is one that the kind has
     ghost had: { (l : Self) → marking.has (meaning l) ≡ true };

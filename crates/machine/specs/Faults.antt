@@ -1,9 +1,15 @@
 -- What a machine's calls answer, by the image and the memory that they are handed.
-use Rattle.std.specs.Prelude.{ℕ, Bool, cond, List, length, Some, None, Ok, Err, Option, Result, ◌==◌, nat_le}
+use Rattle.std.specs.Prelude.{ℕ, Bool, cond, List, ◌++◌, length, Some, None, Ok, Err, codes, decimal, Option, Result, ◌==◌, nat_le}
 use Rattle.machine.specs.declared.GuestFault.{GuestFault}
 use Rattle.machine.specs.declared.GuestFault.TheVariants.{WrongLength, Unlawful, ShortBuffer}
 use Rattle.machine.specs.Bytes.{over}
 use Rattle.machine.specs.Kinds.{Kind}
+
+-- a fault as it is printed
+abbrev pub told : GuestFault → List ℕ
+told WrongLength = codes "wrong length"
+told (Unlawful offset) = codes "unlawful at " ++ decimal offset
+told (ShortBuffer needed) = codes "short, needs " ++ decimal needed
 
 -- the refusal of an image that is not lawful: a wrong length comes first
 abbrev pub load_fault : Kind → List ℕ → GuestFault

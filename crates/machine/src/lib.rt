@@ -3,7 +3,10 @@
 
 ghost use Rattle.std.specs.Prelude.{◌≡◌, ℕ, true, false, List, is_ok, if◌then◌else◌, Some, None, MatchResult};
 ghost use Rattle.machine.specs.Kinds.{Kind, ImageLaws, Rises};
-ghost use Rattle.machine.specs.Faults.{load_fault, save_answer, saved, step_answer, stepped};
+ghost use Rattle.machine.specs.Faults.{told, load_fault, save_answer, saved, step_answer, stepped};
+
+use std::error::Error;
+use std::fmt;
 
 // What reaches a guest from outside: the timer, or a switch with a data byte.
 #[derive(Clone, Copy)]
@@ -14,12 +17,26 @@ pub enum Event {
 
 // What a machine refuses: an image of the wrong length, an image that is not lawful, with the offset that offends, and a buffer that is too
 // short, with the length needed.
-#[derive(Clone, Copy)]
+#[derive(Clone, Copy, Debug)]
 pub enum GuestFault {
     WrongLength,
     Unlawful(u16),
     ShortBuffer(usize),
 }
+
+impl fmt::Display for GuestFault {
+    ghost output = { λ f. Some (told f) };
+
+    fn fmt<W: fmt::Write>(&self, f: &mut fmt::Formatter<W>) -> fmt::Result {
+        match *self {
+            GuestFault::WrongLength => write!(f, "wrong length"),
+            GuestFault::Unlawful(offset) => write!(f, "unlawful at {offset}"),
+            GuestFault::ShortBuffer(needed) => write!(f, "short, needs {needed}"),
+        }
+    }
+}
+
+impl Error for GuestFault {}
 
 // A guest. It means an image, a list of bytes; all that its calls do is said of that image, and a refused call leaves the machine as it was.
 pub trait Machine: Sized + Drop {
@@ -31,14 +48,11 @@ pub trait Machine: Sized + Drop {
     // the image length, and the guest byte that names the kind in a recording
     const IMAGE_BYTES: usize;
 
+    ghost IMAGE_BYTES: { ℕ };
+
     const GUEST_BYTE: u8;
 
-    // the two constants, with their meaning: a constant has no contract of its own
-    fn image_len() -> usize
-        ensures { result ≡ kind.size };
-
-    fn guest() -> u8
-        ensures { result ≡ kind.guest };
+    ghost GUEST_BYTE: { ℕ };
 
     // a machine with the blank image
     fn fresh() -> Self
@@ -78,6 +92,11 @@ pub trait Machine: Sized + Drop {
         ensures answer { result ≡ (if kind.ready event (image self.old) then Some true else None) }
         ensures next { image self.new ≡ (if kind.ready event (image self.old) then kind.taken event (image self.old) else image self.old) }
         ensures left { kind.ready event (image self.old) ≡ false → self.new ≡ self.old };
+
+    // the two constants are the kind's numbers
+    ghost sized: { IMAGE_BYTES ≡ kind.size };
+
+    ghost named: { GUEST_BYTE ≡ kind.guest };
 
     // every machine means a lawful image
     ghost lawful: { (m : Self) → kind.lawful (image m) ≡ true };
