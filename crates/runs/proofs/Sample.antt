@@ -10,7 +10,7 @@ use Rattle.landmark.specs.Markings.{LandmarkLaws, Move, marked}
 use Rattle.landmark.specs.Orders.{major_first}
 use Rattle.landmark.specs.Branches.{branching_laws}
 use Rattle.landmark.specs.Counts.{counting_laws}
-use Rattle.landmark.specs.OrdersLemmas.{order_same, order_self, order_mirror, order_back, order_carries}
+use Rattle.landmark.specs.OrderLaws.{order_same, order_self, order_mirror, order_back, order_carries}
 use Rattle.runs.specs.Samples.{one_byte, counter, latch, brick, countdown, LawsAreKept}
 
 -- one byte
