@@ -1,5 +1,5 @@
 -- The table of checkpoints, as the list of the positions that it holds.
-use Rattle.std.specs.Prelude.{cond, List, [], ◌∷◌, ◌++◌, map, length, take, nat_lt}
+use Rattle.std.specs.Prelude.{cond, List, [], ◌∷◌, ◌++◌, map, length, nat_lt}
 use Rattle.machine.specs.Kinds.{Kind}
 use Rattle.landmark.specs.declared.Code.{Code}
 use Rattle.replay.specs.Positions.{Position}
@@ -9,9 +9,9 @@ use Rattle.checkpoints.specs.declared.table.Target.{Target}
 use Rattle.checkpoints.specs.declared.table.Target.TheVariants.{Unit as AtUnit, Mark}
 use Rattle.checkpoints.specs.Nearest.{Aim, to_unit, to_code}
 
--- the positions of the rows that are filled
+-- the positions of the rows
 abbrev pub kept : Kind → Checkpoints → List Position
-kept K t = map (held K) (take t.count t.rows)
+kept K t = map (held K) t.rows.items
 
 -- one position more, where there is room
 abbrev pub with_position : List Position → Position → List Position

@@ -1,17 +1,16 @@
-// The table of the kept units: eight rows, of which the first is the start of the run.
+// The table of the kept units: at most eight rows, of which the first is the start of the run.
 
-ghost use Rattle.std.specs.Prelude.{◌≡◌, ◌≤◌, length};
+ghost use Rattle.std.specs.Prelude.{◌≤◌};
+ghost use Rattle.arrayvec.specs.ArrayVec.{array_vec_len};
 
+use arrayvec::ArrayVec;
 use landmark::Landmark;
 use replay::Checkpoint;
 
 #[derive(Drop)]
 pub struct Checkpoints {
-    pub(crate) rows: [Checkpoint; 8],
-    pub(crate) count: usize,
-    ghost some: { 1 ≤ count },
-    ghost few: { count ≤ 8 },
-    ghost whole: { length rows ≡ 8 },
+    pub(crate) rows: ArrayVec<Checkpoint, 8>,
+    ghost some: { 1 ≤ array_vec_len rows },
 }
 
 // Where a move is to go: to a unit, or to the unit that has a landmark.

@@ -16,7 +16,7 @@ pub use branch::Branch;
 pub use count::Count;
 
 // What a landmark is written as: two words. Codes are ordered by the major word, and where that is the same by the minor.
-#[derive(Clone, Copy, Debug, PartialEq, Eq, PartialOrd, Ord)]
+#[derive(Clone, Copy, Debug, Default, PartialEq, Eq, PartialOrd, Ord)]
 pub struct Code {
     pub major: u32,
     pub minor: u32,

@@ -1,7 +1,5 @@
 // A machine at a moment of a run, and a checkpoint from which it can be had again.
 
-ghost use Rattle.std.specs.Prelude.{◌≡◌, length};
-
 use landmark::{Code, Landmark};
 use machine::Machine;
 
@@ -15,11 +13,10 @@ pub struct Cursor<M: Machine, L: Landmark> {
 }
 
 // What a cursor was at: the image takes as much of the room as the kind of machine needs.
-#[derive(Clone, Copy)]
+#[derive(Clone, Copy, Default)]
 pub struct Checkpoint {
     pub unit: u32,
     pub taken: usize,
     pub code: Code,
     pub image: [u8; 4608],
-    ghost whole: { length image ≡ 4608 },
 }
