@@ -2,11 +2,11 @@
 #![tactic(auto)]
 
 use std::io::Read;
-use summary::summarize;
+use summary::{Summary, summarize};
 
 fn main(rt: HostRuntime) -> anyhow::Result<()> {
     let mut input = Vec::new(rt.alloc());
     rt.stdin().read_to_end(&mut input)?;
-    println!(rt; "{}", summarize(&input))?;
+    println!(rt; "{}", Summary(summarize(&input)))?;
     Ok(())
 }

@@ -1,30 +1,38 @@
 // What the report says of its input. As yet it makes the checks that need no guest.
 #![tactic(auto)]
 
-ghost use Rattle.std.specs.Prelude.{◌≡◌, Some};
-ghost use Rattle.summary.specs.Summaries.{guest_of, guest_byte, mark_of, mark_byte, named_kinds, summary_for, summary_of, printed, line_of};
+ghost use Rattle.std.specs.Prelude.{◌≡◌, Some, ok_or};
+ghost use Rattle.summary.specs.Summaries.{guest_of, guest_byte, mark_of, mark_byte, unknown, unknown_told, named_kinds, summary_of, printed, line_of};
 
 use faults::{FileFault, Place, Refusal};
 use recording::{byte_at, check_start};
+use std::error::Error;
 use std::fmt;
 
 // The longest input that the report reads.
 const MOST_BYTES: usize = 8192;
 
-// The guests and the kinds of landmark that the report knows.
-#[derive(Clone, Copy)]
+// The guests and the kinds of landmark that the report knows, each by its byte in a recording. They are two types, for a guest is no kind of
+// landmark; one generic over both would still need a table of bytes for each.
+#[derive(Clone, Copy, Default)]
 pub enum Guest {
-    Mos6502,
-    Rv32i,
+    #[default]
+    Mos6502 = 1,
+    Rv32i = 2,
 }
 
-#[derive(Clone, Copy)]
+#[derive(Clone, Copy, Default)]
 pub enum Mark {
-    Count,
-    Branch,
+    #[default]
+    Count = 1,
+    Branch = 2,
 }
 
-#[derive(Clone, Copy)]
+// A byte that names no kind.
+#[derive(Clone, Copy, Debug)]
+pub struct UnknownKind(pub u8);
+
+#[derive(Clone, Copy, Default)]
 pub struct Kinds {
     pub guest: Guest,
     pub mark: Mark,
@@ -37,92 +45,90 @@ pub struct Opening {
     pub length: usize,
 }
 
+// The line that the report prints of its input.
 #[derive(Clone, Copy)]
-pub enum Summary {
-    Recording(Opening),
-    Refused(Refusal),
-}
+pub struct Summary(pub Result<Opening, Refusal>);
 
-impl Guest {
-    // The guest that the byte names.
-    pub fn from_byte(byte: u8) -> Option<Guest>
-        ensures { result ≡ guest_of byte }
-    {
+impl TryFrom<u8> for Guest {
+    type Error = UnknownKind;
+
+    ghost try_from_gives = { λ b r. r ≡ ok_or (guest_of b) (unknown b) };
+
+    fn try_from(byte: u8) -> Result<Guest, UnknownKind> {
         match byte {
-            1 => Some(Guest::Mos6502),
-            2 => Some(Guest::Rv32i),
-            _ => None,
-        }
-    }
-
-    pub fn byte(self) -> u8
-        ensures { result ≡ guest_byte self }
-    {
-        match self {
-            Guest::Mos6502 => 1,
-            Guest::Rv32i => 2,
+            1 => Ok(Guest::Mos6502),
+            2 => Ok(Guest::Rv32i),
+            _ => Err(UnknownKind(byte)),
         }
     }
 }
 
-impl Mark {
-    // The kind of landmark that the byte names.
-    pub fn from_byte(byte: u8) -> Option<Mark>
-        ensures { result ≡ mark_of byte }
-    {
+impl From<Guest> for u8 {
+    ghost from_gives = { λ g r. r ≡ guest_byte g };
+
+    fn from(guest: Guest) -> u8 {
+        guest as u8
+    }
+}
+
+impl TryFrom<u8> for Mark {
+    type Error = UnknownKind;
+
+    ghost try_from_gives = { λ b r. r ≡ ok_or (mark_of b) (unknown b) };
+
+    fn try_from(byte: u8) -> Result<Mark, UnknownKind> {
         match byte {
-            1 => Some(Mark::Count),
-            2 => Some(Mark::Branch),
-            _ => None,
-        }
-    }
-
-    pub fn byte(self) -> u8
-        ensures { result ≡ mark_byte self }
-    {
-        match self {
-            Mark::Count => 1,
-            Mark::Branch => 2,
+            1 => Ok(Mark::Count),
+            2 => Ok(Mark::Branch),
+            _ => Err(UnknownKind(byte)),
         }
     }
 }
+
+impl From<Mark> for u8 {
+    ghost from_gives = { λ m r. r ≡ mark_byte m };
+
+    fn from(mark: Mark) -> u8 {
+        mark as u8
+    }
+}
+
+impl fmt::Display for UnknownKind {
+    ghost output = { λ e. Some (unknown_told e) };
+
+    fn fmt<W: fmt::Write>(&self, f: &mut fmt::Formatter<W>) -> fmt::Result {
+        write!(f, "no kind has the byte {}", self.0)
+    }
+}
+
+impl Error for UnknownKind {}
 
 // The kinds that the input is read for: those that its bytes name, or the first of each where either is absent or unknown.
 pub fn kinds_of(file: &[u8]) -> Kinds
     ensures { result ≡ named_kinds file.now }
 {
-    let named_guest = Guest::from_byte(byte_at(file, 5));
-    let named_mark = Mark::from_byte(byte_at(file, 6));
-    match (named_guest, named_mark) {
-        (Some(guest), Some(mark)) => Kinds { guest, mark },
-        _ => Kinds {
-            guest: Guest::Mos6502,
-            mark: Mark::Count,
-        },
+    match (
+        Guest::try_from(byte_at(file, 5)),
+        Mark::try_from(byte_at(file, 6)),
+    ) {
+        (Ok(guest), Ok(mark)) => Kinds { guest, mark },
+        _ => Kinds::default(),
     }
 }
 
-// What is said of the file, read for the kinds.
-fn read_for(file: &[u8], kinds: Kinds) -> Summary
-    ensures { result ≡ summary_for file.now kinds }
-{
-    match check_start(file, kinds.guest.byte(), kinds.mark.byte()) {
-        Ok(()) => Summary::Recording(Opening {
-            kinds,
-            length: file.len(),
-        }),
-        Err(fault) => Summary::Refused(fault.refusal()),
-    }
-}
-
-// The report on the input.
-pub fn summarize(file: &[u8]) -> Summary
+// What the report finds: how the recording starts, or why it is refused.
+pub fn summarize(file: &[u8]) -> Result<Opening, Refusal>
     ensures { result ≡ summary_of file.now }
 {
     if file.len() > MOST_BYTES {
-        return Summary::Refused(FileFault::StatedLength.refusal());
+        return Err(FileFault::StatedLength.into());
     }
-    read_for(file, kinds_of(file))
+    let kinds = kinds_of(file);
+    check_start(file, kinds.guest.into(), kinds.mark.into())?;
+    Ok(Opening {
+        kinds,
+        length: file.len(),
+    })
 }
 
 // The one number of a place that is printed.
@@ -137,19 +143,17 @@ pub fn place_number(place: Place) -> usize
 }
 
 impl fmt::Display for Summary {
-    ghost output = { λ s. Some (line_of s) };
+    ghost output = { λ s. Some (line_of s.0) };
 
     fn fmt<W: fmt::Write>(&self, f: &mut fmt::Formatter<W>) -> fmt::Result {
-        match *self {
-            Summary::Recording(opening) => {
-                let guest = opening.kinds.guest.byte();
-                let mark = opening.kinds.mark.byte();
-                let length = opening.length;
+        match self.0 {
+            Ok(Opening { kinds, length }) => {
+                let guest = u8::from(kinds.guest);
+                let mark = u8::from(kinds.mark);
                 write!(f, "guest {guest} mark {mark} length {length}")
             }
-            Summary::Refused(refusal) => {
-                let number = refusal.number;
-                let at = place_number(refusal.place);
+            Err(Refusal { number, place, .. }) => {
+                let at = place_number(place);
                 write!(f, "refused {number} at {at}")
             }
         }
