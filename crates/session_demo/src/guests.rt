@@ -1,6 +1,5 @@
 // The two guests with their firmware.
 
-use anyhow::anyhow;
 use machine::Machine;
 use mos6502::Mos6502;
 use rv32i::Rv32i;
@@ -23,6 +22,13 @@ static WORDS: [u8; 28] = [
     0x93, 0x80, 0x10, 0x00, 0x23, 0x00, 0x11, 0x00, 0x73, 0x00, 0x20, 0x30,
 ];
 
+// A machine that has loaded the image.
+fn loaded<M: Machine>(image: &[u8]) -> anyhow::Result<M> {
+    let mut machine = M::fresh();
+    machine.load(image)?;
+    Ok(machine)
+}
+
 pub(crate) fn mos6502() -> anyhow::Result<Mos6502> {
     let mut image = [0; 4106];
     image[3] = 0xFF;
@@ -33,11 +39,7 @@ pub(crate) fn mos6502() -> anyhow::Result<Mos6502> {
     // the switch's vector, FFFEh
     image[4104] = 0x20;
     image[4105] = 0xF8;
-    let mut machine = Mos6502::fresh();
-    if machine.load(&image).is_err() {
-        return Err(anyhow!("not lawful"));
-    }
-    Ok(machine)
+    loaded(&image)
 }
 
 pub(crate) fn rv32i() -> anyhow::Result<Rv32i> {
@@ -45,9 +47,5 @@ pub(crate) fn rv32i() -> anyhow::Result<Rv32i> {
     // enabled
     image[132] = 1;
     image[136..164].copy_from_slice(&WORDS);
-    let mut machine = Rv32i::fresh();
-    if machine.load(&image).is_err() {
-        return Err(anyhow!("not lawful"));
-    }
-    Ok(machine)
+    loaded(&image)
 }

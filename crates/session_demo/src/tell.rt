@@ -1,28 +1,25 @@
 // One line for each call, with its answer or its refusal.
 
-use faults::{Place, SessionFault};
+use faults::{Refusal, SessionFault};
 use landmark::Code;
 use session::Shown;
+use std::fmt;
 
 fn tell_refusal(rt: &HostRuntime, fault: SessionFault) -> anyhow::Result<()> {
-    let refusal = fault.refusal();
-    let number = refusal.number;
-    match refusal.place {
-        Place::At(at) => println!(rt; "refused {number} at {at}")?,
-        Place::Entry(entry) => println!(rt; "refused {number} at {}", entry.offset)?,
-        Place::Mark(code) => println!(rt; "refused {number} at ({}, {})", code.major, code.minor)?,
-    }
+    let Refusal { number, place, .. } = fault.into();
+    println!(rt; "refused {number} at {place}")?;
     Ok(())
 }
 
-pub(crate) fn tell(
+// The call, then the units or the kept units that it answers.
+pub(crate) fn tell<T: fmt::Display + Drop>(
     rt: &HostRuntime,
-    call: &str,
-    answer: Result<u32, SessionFault>,
+    call: impl fmt::Display + Drop,
+    answer: Result<T, SessionFault>,
 ) -> anyhow::Result<()> {
     print!(rt; "{call}: ")?;
     match answer {
-        Ok(units) => println!(rt; "{units}")?,
+        Ok(told) => println!(rt; "{told}")?,
         Err(fault) => tell_refusal(rt, fault)?,
     }
     Ok(())
@@ -33,24 +30,7 @@ pub(crate) fn tell_seek(
     code: Code,
     answer: Result<u32, SessionFault>,
 ) -> anyhow::Result<()> {
-    print!(rt; "seek ({}, {}): ", code.major, code.minor)?;
-    match answer {
-        Ok(units) => println!(rt; "{units}")?,
-        Err(fault) => tell_refusal(rt, fault)?,
-    }
-    Ok(())
-}
-
-pub(crate) fn tell_kept(
-    rt: &HostRuntime,
-    answer: Result<usize, SessionFault>,
-) -> anyhow::Result<()> {
-    print!(rt; "keep: ")?;
-    match answer {
-        Ok(kept) => println!(rt; "{kept}")?,
-        Err(fault) => tell_refusal(rt, fault)?,
-    }
-    Ok(())
+    tell(rt, format_args!("seek {code}"), answer)
 }
 
 pub(crate) fn tell_shown(
@@ -60,13 +40,7 @@ pub(crate) fn tell_shown(
 ) -> anyhow::Result<()> {
     print!(rt; "show: ")?;
     match answer {
-        Ok(shown) => {
-            let code = shown.code;
-            println!(rt;
-                "unit {} at ({}, {}) lamp {lamp:02X}",
-                shown.unit, code.major, code.minor
-            )?;
-        }
+        Ok(Shown { unit, code }) => println!(rt; "unit {unit} at {code} lamp {lamp:02X}")?,
         Err(fault) => tell_refusal(rt, fault)?,
     }
     Ok(())
