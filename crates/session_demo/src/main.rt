@@ -10,7 +10,7 @@ use machine::Event;
 use mos6502::Mos6502;
 use rv32i::Rv32i;
 use session::{Recording, Replaying};
-use tell::{tell, tell_kept, tell_seek, tell_shown};
+use tell::{tell, tell_seek, tell_shown};
 
 // Landmarks of the 6502's run: of units 5 and 4, and one that no moment has.
 #[derive(Clone, Copy)]
@@ -70,8 +70,8 @@ fn look_round<L: Landmark>(
     tell_shown(rt, shown, 0)?;
     tell(rt, "back 5", session.back(5))?;
     tell(rt, "forward 6", session.forward(6))?;
-    tell_kept(rt, session.keep())?;
-    tell_kept(rt, session.keep())?;
+    tell(rt, "keep", session.keep())?;
+    tell(rt, "keep", session.keep())?;
     tell(rt, "forward 5", session.forward(5))?;
     tell(rt, "back 3", session.back(3))?;
     Ok(())
@@ -102,7 +102,7 @@ fn go_on<L: Landmark>(rt: &HostRuntime, session: Replaying<Mos6502, L>) -> anyho
     tell_shown(rt, shown, image[LAMP_6502])?;
     for _ in 0..7 {
         tell(rt, "back 1", session.back(1))?;
-        tell_kept(rt, session.keep())?;
+        tell(rt, "keep", session.keep())?;
     }
     tell(rt, "forward 4", session.forward(4))?;
     Ok(())
@@ -123,7 +123,7 @@ fn timer_run<L: Landmark>(rt: &HostRuntime, seventh: Code, none: Code) -> anyhow
     tell(rt, "interrupt Timer", session.interrupt(Event::Timer))?;
     tell(rt, "interrupt Timer", session.interrupt(Event::Timer))?;
     tell(rt, "run 3", session.run(3))?;
-    tell_kept(rt, session.keep())?;
+    tell(rt, "keep", session.keep())?;
     tell(rt, "run 1", session.run(1))?;
     tell(
         rt,
