@@ -131,7 +131,7 @@ pub fn summarize(file: &[u8]) -> Result<Opening, Refusal>
     })
 }
 
-// The one number of a place that is printed.
+// The one number of a place that is printed: of a code its minor word alone, where a place's own Display gives both.
 pub fn place_number(place: Place) -> usize
     ensures { result ≡ printed place }
 {
