@@ -31,7 +31,7 @@ pub fn not_past<L: Landmark>(target: Target<L>, row: &Checkpoint) -> bool
 }
 
 // Whether the row is not past the target and not before the best so far.
-fn is_closer<L: Landmark>(target: Target<L>, best: &Checkpoint, row: &Checkpoint) -> bool
+pub fn is_closer<L: Landmark>(target: Target<L>, best: &Checkpoint, row: &Checkpoint) -> bool
     ensures { (K : Kind) → result ≡ (if is_not_past L.Landmark.marking (aim L.Landmark.meaning target) (held K row.now) then nat_le best.now.unit row.now.unit else false) }
 {
     not_past(target, row) && best.unit <= row.unit
