@@ -37,20 +37,19 @@ impl Cpu {
     pub(crate) fn indirect(&self, at: u16) -> u16
         ensures { result ≡ indirect self.now at }
     {
-        self.memory.word(at, at / 256 * 256 + (at % 256 + 1) % 256)
+        let [page, low] = at.to_be_bytes();
+        self.memory
+            .word(at, u16::from_be_bytes([page, low.wrapping_add(1)]))
     }
 
     // The target of a branch, from 128 bytes before the next instruction to 127 behind it.
     pub(crate) fn relative(&self) -> u16
         ensures { result ≡ relative self.now }
     {
-        let offset = u16::from(self.memory.read(self.place.wrapping_add(1)));
-        let past = self.place.wrapping_add(2);
-        if offset < 128 {
-            past.wrapping_add(offset)
-        } else {
-            past.wrapping_sub(256 - offset)
-        }
+        let offset = self.memory.read(self.place.wrapping_add(1)).cast_signed();
+        self.place
+            .wrapping_add(2)
+            .wrapping_add_signed(i16::from(offset))
     }
 
     pub(crate) fn address(&self, mode: Mode) -> u16

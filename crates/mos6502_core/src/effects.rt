@@ -1,31 +1,21 @@
 // What instructions have in common: a register that is loaded, the stack, calls and interrupts.
 ghost use Rattle.std.specs.Prelude.{◌≡◌};
-ghost use Rattle.mos6502_core.specs.Effects.{loaded_a, loaded_x, loaded_y, put, pushed, pulled, top, pushed_word, pulled_word, top_word, interrupted, resumed, called, retired};
+ghost use Rattle.mos6502_parts.specs.Flags.{judged};
+ghost use Rattle.mos6502_core.specs.Registers.{with_p};
+ghost use Rattle.mos6502_core.specs.Effects.{put, pushed, pulled, top, pushed_word, pulled_word, top_word, interrupted, resumed, called, retired};
 
 use crate::cpu::Cpu;
 use mos6502_parts::arithmetic::Outcome;
 use mos6502_parts::flags::Flags;
 
 impl Cpu {
-    pub(crate) fn load_a(&mut self, byte: u8)
-        ensures { self.new ≡ loaded_a byte self.old }
+    // Hands on a byte that goes to a register, with N and Z by it.
+    pub(crate) fn judged(&mut self, byte: u8) -> u8
+        ensures value { result ≡ byte }
+        ensures after { self.new ≡ with_p self.old (judged self.old.p byte) }
     {
-        self.a = byte;
         self.p = self.p.judge(byte);
-    }
-
-    pub(crate) fn load_x(&mut self, byte: u8)
-        ensures { self.new ≡ loaded_x byte self.old }
-    {
-        self.x = byte;
-        self.p = self.p.judge(byte);
-    }
-
-    pub(crate) fn load_y(&mut self, byte: u8)
-        ensures { self.new ≡ loaded_y byte self.old }
-    {
-        self.y = byte;
-        self.p = self.p.judge(byte);
+        byte
     }
 
     // Puts the outcome of an operation back where its operand came from.
@@ -55,8 +45,9 @@ impl Cpu {
     pub(crate) fn push_word(&mut self, word: u16)
         ensures { self.new ≡ pushed_word word self.old }
     {
-        self.push((word / 256) as u8);
-        self.push((word % 256) as u8);
+        let [high, low] = word.to_be_bytes();
+        self.push(high);
+        self.push(low);
     }
 
     pub(crate) fn pull_word(&mut self) -> u16
@@ -65,7 +56,7 @@ impl Cpu {
     {
         let low = self.pull();
         let high = self.pull();
-        u16::from(low) + 256 * u16::from(high)
+        u16::from_le_bytes([low, high])
     }
 
     // Leaves for a handler: the way back and P go on the stack, and the switch is held off.
@@ -82,7 +73,7 @@ impl Cpu {
     pub(crate) fn resume(&mut self)
         ensures { self.new ≡ resumed self.old }
     {
-        self.p = Flags::from_byte(self.pull());
+        self.p = Flags::from(self.pull());
         self.place = self.pull_word();
     }
 
@@ -93,7 +84,7 @@ impl Cpu {
         let low = self.memory.read(self.place.wrapping_add(1));
         let last = self.place.wrapping_add(2);
         self.push_word(last);
-        self.place = u16::from(low) + 256 * u16::from(self.memory.read(last));
+        self.place = u16::from_le_bytes([low, self.memory.read(last)]);
     }
 
     // RTS: comes back from a call.

@@ -8,7 +8,7 @@ use mos6502_parts::flags::Flags;
 use mos6502_parts::opcodes::{BranchOp, ImpliedOp, Instruction, ReadOp, StoreOp, decode};
 
 // BRK and the switch go through this vector.
-const SWITCH_VECTOR: u16 = 0xFFFE;
+pub const SWITCH_VECTOR: u16 = 0xFFFE;
 
 // Set in the pushed P where an instruction pushed it.
 const BREAK: u8 = 16;
@@ -48,16 +48,16 @@ impl Cpu {
     {
         match op {
             ReadOp::Adc => self.set_a(add(self.p, self.a, byte)),
-            ReadOp::And => self.load_a(self.a & byte),
+            ReadOp::And => self.a = self.judged(self.a & byte),
             ReadOp::Bit => self.p = test(self.p, self.a, byte),
             ReadOp::Cmp => self.p = compare(self.p, self.a, byte),
             ReadOp::Cpx => self.p = compare(self.p, self.x, byte),
             ReadOp::Cpy => self.p = compare(self.p, self.y, byte),
-            ReadOp::Eor => self.load_a(self.a ^ byte),
-            ReadOp::Lda => self.load_a(byte),
-            ReadOp::Ldx => self.load_x(byte),
-            ReadOp::Ldy => self.load_y(byte),
-            ReadOp::Ora => self.load_a(self.a | byte),
+            ReadOp::Eor => self.a = self.judged(self.a ^ byte),
+            ReadOp::Lda => self.a = self.judged(byte),
+            ReadOp::Ldx => self.x = self.judged(byte),
+            ReadOp::Ldy => self.y = self.judged(byte),
+            ReadOp::Ora => self.a = self.judged(self.a | byte),
             ReadOp::Sbc => self.set_a(subtract(self.p, self.a, byte)),
         }
     }
@@ -78,39 +78,40 @@ impl Cpu {
         match op {
             ImpliedOp::Brk => self.interrupt(
                 self.place.wrapping_add(1),
-                self.p.to_byte() + BREAK,
+                u8::from(self.p) + BREAK,
                 SWITCH_VECTOR,
             ),
             ImpliedOp::Clc => self.p.c = false,
             ImpliedOp::Cld => self.p.d = false,
             ImpliedOp::Cli => self.p.i = false,
             ImpliedOp::Clv => self.p.v = false,
-            ImpliedOp::Dex => self.load_x(self.x.wrapping_sub(1)),
-            ImpliedOp::Dey => self.load_y(self.y.wrapping_sub(1)),
-            ImpliedOp::Inx => self.load_x(self.x.wrapping_add(1)),
-            ImpliedOp::Iny => self.load_y(self.y.wrapping_add(1)),
+            ImpliedOp::Dex => self.x = self.judged(self.x.wrapping_sub(1)),
+            ImpliedOp::Dey => self.y = self.judged(self.y.wrapping_sub(1)),
+            ImpliedOp::Inx => self.x = self.judged(self.x.wrapping_add(1)),
+            ImpliedOp::Iny => self.y = self.judged(self.y.wrapping_add(1)),
             ImpliedOp::Nop => {}
             ImpliedOp::Pha => self.push(self.a),
-            ImpliedOp::Php => self.push(self.p.to_byte() + BREAK),
+            ImpliedOp::Php => self.push(u8::from(self.p) + BREAK),
             ImpliedOp::Pla => {
                 let byte = self.pull();
-                self.load_a(byte);
+                self.a = self.judged(byte);
             }
-            ImpliedOp::Plp => self.p = Flags::from_byte(self.pull()),
+            ImpliedOp::Plp => self.p = Flags::from(self.pull()),
             ImpliedOp::Rti => self.resume(),
             ImpliedOp::Rts => self.retire(),
             ImpliedOp::Sec => self.p.c = true,
             ImpliedOp::Sed => self.p.d = true,
             ImpliedOp::Sei => self.p.i = true,
-            ImpliedOp::Tax => self.load_x(self.a),
-            ImpliedOp::Tay => self.load_y(self.a),
-            ImpliedOp::Tsx => self.load_x(self.s),
-            ImpliedOp::Txa => self.load_a(self.x),
+            ImpliedOp::Tax => self.x = self.judged(self.a),
+            ImpliedOp::Tay => self.y = self.judged(self.a),
+            ImpliedOp::Tsx => self.x = self.judged(self.s),
+            ImpliedOp::Txa => self.a = self.judged(self.x),
             ImpliedOp::Txs => self.s = self.x,
-            ImpliedOp::Tya => self.load_a(self.y),
+            ImpliedOp::Tya => self.a = self.judged(self.y),
         }
     }
 
+    #[tactic(auto, unfolding(crate::specs::Instructions::executed))]
     fn execute(&mut self, instruction: Instruction)
         ensures { self.new ≡ executed instruction self.old }
     {

@@ -16,17 +16,14 @@ pub struct Outcome {
 pub fn add(p: Flags, a: u8, v: u8) -> Outcome
     ensures { result ≡ sum p a v }
 {
-    let total = u16::from(a) + u16::from(v) + p.c as u16;
-    let value = (total % 256) as u8;
+    let (value, carry) = a.carrying_add(v, p.c);
     let overflow = (a >= 128) == (v >= 128) && (a >= 128) != (value >= 128);
     Outcome {
         value,
         flags: Flags {
-            n: value >= 128,
             v: overflow,
-            z: value == 0,
-            c: total >= 256,
-            ..p
+            c: carry,
+            ..p.judge(value)
         },
     }
 }
@@ -35,17 +32,15 @@ pub fn add(p: Flags, a: u8, v: u8) -> Outcome
 pub fn subtract(p: Flags, a: u8, v: u8) -> Outcome
     ensures { result ≡ difference p a v }
 {
-    add(p, a, 255 - v)
+    add(p, a, !v)
 }
 
 pub fn compare(p: Flags, register: u8, v: u8) -> Flags
     ensures { result ≡ compared p register v }
 {
     Flags {
-        n: register.wrapping_sub(v) >= 128,
-        z: register == v,
         c: register >= v,
-        ..p
+        ..p.judge(register.wrapping_sub(v))
     }
 }
 
@@ -58,16 +53,14 @@ pub fn change(op: ChangeOp, p: Flags, v: u8) -> Outcome
         ChangeOp::Dec => (v.wrapping_sub(1), p.c),
         ChangeOp::Inc => (v.wrapping_add(1), p.c),
         ChangeOp::Lsr => (v / 2, v % 2 == 1),
-        ChangeOp::Rol => (v % 128 * 2 + p.c as u8, v >= 128),
-        ChangeOp::Ror => (v / 2 + 128 * (p.c as u8), v % 2 == 1),
+        ChangeOp::Rol => (v % 128 * 2 + u8::from(p.c), v >= 128),
+        ChangeOp::Ror => (v / 2 + 128 * u8::from(p.c), v % 2 == 1),
     };
     Outcome {
         value,
         flags: Flags {
-            n: value >= 128,
-            z: value == 0,
             c,
-            ..p
+            ..p.judge(value)
         },
     }
 }

@@ -3,7 +3,7 @@ ghost use Rattle.std.specs.Prelude.{◌≡◌};
 ghost use Rattle.mos6502_parts.specs.Flags.{flag_byte, flags_of, judged};
 
 // Bits 5 and 4 of P are no flags: the one is always set, the other always clear, so that only these six are kept.
-#[derive(Clone, Copy)]
+#[derive(Clone, Copy, Default)]
 pub struct Flags {
     // negative: bit 7 of the last result
     pub n: bool,
@@ -20,32 +20,6 @@ pub struct Flags {
 }
 
 impl Flags {
-    pub fn to_byte(self) -> u8
-        ensures { result ≡ flag_byte self }
-    {
-        128 * (self.n as u8)
-            + 64 * (self.v as u8)
-            + 32
-            + 8 * (self.d as u8)
-            + 4 * (self.i as u8)
-            + 2 * (self.z as u8)
-            + (self.c as u8)
-    }
-
-    // What stands in bits 5 and 4 of the byte is left aside.
-    pub fn from_byte(byte: u8) -> Flags
-        ensures { result ≡ flags_of byte }
-    {
-        Flags {
-            n: byte / 128 % 2 == 1,
-            v: byte / 64 % 2 == 1,
-            d: byte / 8 % 2 == 1,
-            i: byte / 4 % 2 == 1,
-            z: byte / 2 % 2 == 1,
-            c: byte % 2 == 1,
-        }
-    }
-
     // The flags after a result: N and Z speak of it.
     pub fn judge(self, value: u8) -> Flags
         ensures { result ≡ judged self value }
@@ -54,6 +28,37 @@ impl Flags {
             n: value >= 128,
             z: value == 0,
             ..self
+        }
+    }
+}
+
+// Bits are told by their weights, in the arithmetic that the definitions have: masks and shifts say no more, and each needs a lemma.
+impl From<Flags> for u8 {
+    ghost from_gives = { λ p byte. byte ≡ flag_byte p };
+
+    fn from(p: Flags) -> u8 {
+        128 * u8::from(p.n)
+            + 64 * u8::from(p.v)
+            + 32
+            + 8 * u8::from(p.d)
+            + 4 * u8::from(p.i)
+            + 2 * u8::from(p.z)
+            + u8::from(p.c)
+    }
+}
+
+// What stands in bits 5 and 4 of the byte is left aside.
+impl From<u8> for Flags {
+    ghost from_gives = { λ byte p. p ≡ flags_of byte };
+
+    fn from(byte: u8) -> Flags {
+        Flags {
+            n: byte / 128 % 2 == 1,
+            v: byte / 64 % 2 == 1,
+            d: byte / 8 % 2 == 1,
+            i: byte / 4 % 2 == 1,
+            z: byte / 2 % 2 == 1,
+            c: byte % 2 == 1,
         }
     }
 }

@@ -19,10 +19,10 @@ impl Memory {
         ensures { result ≡ byte_at self.now at }
     {
         match at {
-            0..=0x7FF => self.ram[at as usize],
+            0..=0x7FF => self.ram[usize::from(at)],
             LAMP => self.lamp,
             SWITCH => self.switch,
-            0xF800..=0xFFFF => self.rom[(at - 0xF800) as usize],
+            0xF800..=0xFFFF => self.rom[usize::from(at - 0xF800)],
             _ => 0,
         }
     }
@@ -31,7 +31,7 @@ impl Memory {
         ensures { self.new ≡ stored self.old at byte }
     {
         match at {
-            0..=0x7FF => self.ram[at as usize] = byte,
+            0..=0x7FF => self.ram[usize::from(at)] = byte,
             LAMP => self.lamp = byte,
             _ => {}
         }
@@ -41,6 +41,6 @@ impl Memory {
     pub fn word(&self, low: u16, high: u16) -> u16
         ensures { result ≡ word_at self.now low high }
     {
-        u16::from(self.read(low)) + 256 * u16::from(self.read(high))
+        u16::from_le_bytes([self.read(low), self.read(high)])
     }
 }

@@ -127,9 +127,9 @@ impl Instruction {
         ensures { result ≡ instruction_bytes self }
     {
         match self {
-            Instruction::Read(_, mode) => 1 + mode.operand_bytes(),
-            Instruction::Store(_, mode) => 1 + mode.operand_bytes(),
-            Instruction::Change(_, mode) => 1 + mode.operand_bytes(),
+            Instruction::Read(_, mode)
+            | Instruction::Store(_, mode)
+            | Instruction::Change(_, mode) => 1 + mode.operand_bytes(),
             Instruction::Branch(_) => 2,
             Instruction::Jmp | Instruction::JmpIndirect | Instruction::Jsr => 3,
             Instruction::ChangeA(_) | Instruction::Implied(_) | Instruction::Undefined => 1,
@@ -399,5 +399,5 @@ static MATRIX: [Instruction; 256] = [
 pub fn decode(opcode: u8) -> Instruction
     ensures { result ≡ decoded opcode }
 {
-    MATRIX[opcode as usize]
+    MATRIX[usize::from(opcode)]
 }

@@ -11,4 +11,4 @@ reads matrix d is byte fits = ap (λ (rows : List Instruction). get_or rows byte
 
 pub returns : goal.returns
 unfolding decoded
-returns c = reads _ _ refl c.args.opcode (search rules)
+returns c = reads _ _ refl c.from.result (search rules) ∙ ap decoded c.from.ensures
