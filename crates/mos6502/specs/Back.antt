@@ -1,20 +1,18 @@
 -- The processor and its image: each gives the other back, and what is in range has a lawful image.
-use Rattle.std.specs.Prelude.{◌≡◌, ℕ, zero, suc, ◌/◌, ◌%◌, ◌<◌, Bool, true, false, ◌&&◌, List, [], ◌∷◌, ◌++◌, length, take, drop, ◌==◌, nat_eq, nat_lt, slice_index, slice_index_or, refl}
+use Rattle.std.specs.Prelude.{◌≡◌, ℕ, zero, suc, ◌/◌, ◌%◌, ◌<◌, Bool, true, false, ◌&&◌, List, ◌∷◌, ◌++◌, length, drop, ◌==◌, nat_eq, nat_lt, slice_index, slice_index_or, refl}
 use Rattle.std.proofs.Common.{ap, subst, ◌∙◌, ⊎_elim, arith, lit<, length-append, drop-cons}
 use Rattle.std.proofs.lemmas.Nat.{div-mul-add, mod-mul-add, div-add-mod'}
 use Rattle.std.proofs.lemmas.List.{take-append-drop, drop-drop, take_at, drop_at, length-take, length-drop}
+use Rattle.std.proofs.lemmas.List.Elements.{All-weaker, All-from_recursion, All-append, All-take, All-drop}
+use Rattle.std.proofs.lemmas.List.Sums.{AllPass-from_list_all, list_all-from_AllPass}
 use Rattle.std.proofs.lemmas.Bool.{and_parts, and_from, eqb-true, eq-eqb, ltb-true, lt-ltb, cases_Bool}
 use Rattle.mos6502_parts.specs.declared.flags.Flags.{Flags}
 use Rattle.mos6502_parts.specs.Flags.{bit, flag_byte, flags_of}
 use Rattle.mos6502_core.specs.declared.cpu.Cpu.{Cpu}
-use Rattle.mos6502_core.proofs.Keeps.{Sound}
+use Rattle.mos6502_core.proofs.Keeps.{Sound, AllBytes, byte_in, bit_small, flag_byte_small}
 use Rattle.mos6502.specs.Images.{head_of, image_of, cpu_of, lawful_flags, lawful_stopped, all_bytes, lawful_image}
 
 -- bits
-
-bit_small : (b : Bool) → bit b < 2
-bit_small true = lit< tt
-bit_small false = lit< tt
 
 bit_back : (b : Bool) → (bit b == 1) ≡ b
 bit_back true = refl
@@ -30,33 +28,18 @@ bit_of (suc (suc n)) h = omega arith
 flag_back : (n : ℕ) (b : Bool) → n ≡ bit b → (n == 1) ≡ b
 flag_back n b e = ap (λ (k : ℕ). nat_eq k 1) e ∙ bit_back b
 
-record Bits (p : Flags) : Type 0 where
-  n : bit p.n < 2
-  v : bit p.v < 2
-  d : bit p.d < 2
-  i : bit p.i < 2
-  z : bit p.z < 2
-  c : bit p.c < 2
-
-bits : (p : Flags) → Bits p
-bits p = record { n = bit_small p.n; v = bit_small p.v; d = bit_small p.d; i = bit_small p.i; z = bit_small p.z; c = bit_small p.c }
-
 flags_back : (p : Flags) → flags_of (flag_byte p) ≡ p
 flags_back p =
-    let small = bits p in
-    let n = flag_back (flag_byte p / 128 % 2) p.n (omega arith) in
-    let v = flag_back (flag_byte p / 64 % 2) p.v (omega arith) in
-    let d = flag_back (flag_byte p / 8 % 2) p.d (omega arith) in
-    let i = flag_back (flag_byte p / 4 % 2) p.i (omega arith) in
-    let z = flag_back (flag_byte p / 2 % 2) p.z (omega arith) in
-    let c = flag_back (flag_byte p / 1 % 2) p.c (omega arith) in
+    let n = flag_back (flag_byte p / 128 % 2) p.n (omega (arith, bit_small)) in
+    let v = flag_back (flag_byte p / 64 % 2) p.v (omega (arith, bit_small)) in
+    let d = flag_back (flag_byte p / 8 % 2) p.d (omega (arith, bit_small)) in
+    let i = flag_back (flag_byte p / 4 % 2) p.i (omega (arith, bit_small)) in
+    let z = flag_back (flag_byte p / 2 % 2) p.z (omega (arith, bit_small)) in
+    let c = flag_back (flag_byte p / 1 % 2) p.c (omega (arith, bit_small)) in
     λ k. record { n = n k; v = v k; d = d k; i = i k; z = z k; c = c k }
 
 flag_byte_lawful : (p : Flags) → flag_byte p / 16 % 4 ≡ 2
-flag_byte_lawful p = let small = bits p in omega arith
-
-flag_byte_fits : (p : Flags) → flag_byte p < 256
-flag_byte_fits p = let small = bits p in omega arith
+flag_byte_lawful p = omega (arith, bit_small)
 
 byte_back : (v : ℕ) → v < 256 → v / 16 % 4 ≡ 2 → flag_byte (flags_of v) ≡ v
 byte_back v h f =
@@ -87,18 +70,15 @@ cpu_image m h =
 
 pub record Lawful (i : List ℕ) : Type 0 where
   pub long : length i ≡ 4106
-  pub bytes : (k : ℕ) → slice_index i k < 256
+  pub bytes : AllBytes i
   pub flags : slice_index_or i 4 0 / 16 % 4 ≡ 2
   pub stops : slice_index_or i 7 0 < 2
 
-all_from : (xs : List ℕ) → all_bytes xs ≡ true → (k : ℕ) → slice_index xs k < 256
-all_from [] e k = lit< tt
-all_from (x ∷ xs) e zero = ltb-true x 256 (and_parts (nat_lt x 256) (all_bytes xs) e).0
-all_from (x ∷ xs) e (suc k) = all_from xs (and_parts (nat_lt x 256) (all_bytes xs) e).1 k
+all_from : (xs : List ℕ) → all_bytes xs ≡ true → AllBytes xs
+all_from xs e = All-weaker (λ n. nat_lt n 256 ≡ true) (λ n. n < 256) (λ n. ltb-true n 256) xs (AllPass-from_list_all (λ n. nat_lt n 256) xs e)
 
-all_true : (xs : List ℕ) → ((k : ℕ) → slice_index xs k < 256) → all_bytes xs ≡ true
-all_true [] f = refl
-all_true (x ∷ xs) f = and_from (nat_lt x 256) (all_bytes xs) (lt-ltb x 256 (f zero)) (all_true xs (λ k. f (suc k)))
+all_true : (xs : List ℕ) → AllBytes xs → all_bytes xs ≡ true
+all_true xs h = list_all-from_AllPass (λ n. nat_lt n 256) xs (All-weaker (λ n. n < 256) (λ n. nat_lt n 256 ≡ true) (λ n. lt-ltb n 256) xs h)
 
 pub lawful_parts : (i : List ℕ) → lawful_image i ≡ true → Lawful i
 unfolding lawful_image
@@ -146,9 +126,9 @@ front i l =
 pub image_cpu : (i : List ℕ) → Lawful i → image_of (cpu_of i) ≡ i
 unfolding image_of cpu_of
 image_cpu i w =
-    let low : slice_index_or i 6 0 < 256 = w.bytes 6 in
+    let low : slice_index_or i 6 0 < 256 = byte_in i 6 w.bytes in
     rw (
-      byte_back (slice_index i 4) (w.bytes 4) w.flags,
+      byte_back (slice_index i 4) (byte_in i 4 w.bytes) w.flags,
       div-mul-add (slice_index i 5) 256 (slice_index i 6) low,
       mod-mul-add (slice_index i 5) 256 (slice_index i 6) low,
       bit_of (slice_index i 7) w.stops,
@@ -159,53 +139,23 @@ image_cpu i w =
 
 -- a processor in range has a lawful image, and a lawful image holds a processor in range
 
-record InRange (xs : List ℕ) : Type 0 where
-  at : (k : ℕ) → slice_index xs k < 256
-
-cons_bytes : (x : ℕ) (xs : List ℕ) → x < 256 → InRange xs → (k : ℕ) → slice_index (x ∷ xs) k < 256
-cons_bytes x xs h t zero = h
-cons_bytes x xs h t (suc k) = t.at k
-
-before : {x : ℕ} {xs : List ℕ} → x < 256 → InRange xs → InRange (x ∷ xs)
-before {x} {xs} h t = record { at = cons_bytes x xs h t }
-
-none : InRange []
-none = record { at = λ k. lit< tt }
-
-append_bytes : (xs ys : List ℕ) → ((k : ℕ) → slice_index xs k < 256) → ((k : ℕ) → slice_index ys k < 256) → (k : ℕ) → slice_index (xs ++ ys) k < 256
-append_bytes [] ys f g k = g k
-append_bytes (x ∷ xs) ys f g zero = f zero
-append_bytes (x ∷ xs) ys f g (suc k) = append_bytes xs ys (λ j. f (suc j)) g k
-
-take_bytes : (n : ℕ) (xs : List ℕ) → ((k : ℕ) → slice_index xs k < 256) → (k : ℕ) → slice_index (take n xs) k < 256
-take_bytes zero xs f k = lit< tt
-take_bytes (suc n) [] f k = lit< tt
-take_bytes (suc n) (x ∷ xs) f zero = f zero
-take_bytes (suc n) (x ∷ xs) f (suc k) = take_bytes n xs (λ j. f (suc j)) k
-
-drop_bytes : (n : ℕ) (xs : List ℕ) → ((k : ℕ) → slice_index xs k < 256) → (k : ℕ) → slice_index (drop n xs) k < 256
-drop_bytes zero xs f k = f k
-drop_bytes (suc n) [] f k = lit< tt
-drop_bytes (suc n) (x ∷ xs) f k = drop_bytes n xs (λ j. f (suc j)) k
-
-head_bytes : (m : Cpu) → Sound m → InRange (head_of m)
+head_bytes : (m : Cpu) → Sound m → AllBytes (head_of m)
 head_bytes m h =
-    let small = bit_small m.stopped in
+    let p : flag_byte m.p < 256 = omega (arith, flag_byte_small) in
     let high : m.place / 256 < 256 = omega (arith, h.place) in
     let low : m.place % 256 < 256 = omega arith in
-    let stop : bit m.stopped < 256 = omega arith in
-    before h.a
-    (before h.x
-    (before h.y
-    (before h.s
-    (before (flag_byte_fits m.p) (before high (before low (before stop (before h.memory.lamp (before h.memory.switch none)))))))))
+    let stop : bit m.stopped < 256 = omega (arith, bit_small) in
+    All-from_recursion (λ n. n < 256) (head_of m) (h.a, (h.x, (h.y, (h.s, (p, (high, (low, (stop, (h.memory.lamp, (h.memory.switch, tt))))))))))
 
 image_lawful : (m : Cpu) → Sound m → Lawful (image_of m)
 unfolding image_of
 image_lawful m h =
     record {
       long = let a = h.memory.ram in let o = h.memory.rom in simp length-append (omega arith);
-      bytes = append_bytes (head_of m) _ (head_bytes m h).at (append_bytes m.memory.ram m.memory.rom h.memory.ram_bytes h.memory.rom_bytes);
+      bytes =
+          let byte : ℕ → Type 0 = λ n. n < 256 in
+          All-append byte (head_of m) (m.memory.ram ++ m.memory.rom) (head_bytes m h)
+          (All-append byte m.memory.ram m.memory.rom h.memory.ram_bytes h.memory.rom_bytes);
       flags = flag_byte_lawful m.p;
       stops = bit_small m.stopped;
     }
@@ -216,7 +166,7 @@ sound_image m h = lawful_from (image_of m) (image_lawful m h)
 pub cpu_sound : (i : List ℕ) → Lawful i → Sound (cpu_of i)
 unfolding cpu_of
 cpu_sound i w =
-    let f = w.bytes in
+    let f : (k : ℕ) → slice_index_or i k 0 < 256 = λ k. byte_in i k w.bytes in
     let l = w.long in
     record {
       a = f 0;
@@ -230,8 +180,8 @@ cpu_sound i w =
             switch = f 9;
             ram = simp (length-take, length-drop) (omega arith);
             rom = simp length-drop (omega arith);
-            ram_bytes = take_bytes 2048 (drop 10 i) (drop_bytes 10 i f);
-            rom_bytes = drop_bytes 2058 i f;
+            ram_bytes = All-take (λ n. n < 256) 2048 (drop 10 i) (All-drop (λ n. n < 256) 10 i w.bytes);
+            rom_bytes = All-drop (λ n. n < 256) 2058 i w.bytes;
           };
     }
 

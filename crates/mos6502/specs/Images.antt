@@ -1,5 +1,6 @@
 -- The image of a processor: a list of 4,106 bytes.
-use Rattle.std.specs.Prelude.{ℕ, ◌+◌, ◌*◌, ◌/◌, ◌%◌, Bool, true, cond, ◌&&◌, List, [], ◌∷◌, ◌++◌, length, take, drop, replicate, ◌==◌, nat_lt, slice_index}
+use Rattle.std.specs.Prelude.{ℕ, ◌+◌, ◌*◌, ◌/◌, ◌%◌, Bool, cond, ◌&&◌, List, [], ◌∷◌, ◌++◌, length, take, drop, replicate, ◌==◌, nat_lt, slice_index}
+use Rattle.std.specs.List.{list_all}
 use Rattle.mos6502_parts.specs.Flags.{bit, flag_byte, flags_of}
 use Rattle.mos6502_core.specs.declared.cpu.Cpu.{Cpu}
 
@@ -34,8 +35,7 @@ abbrev pub lawful_stopped : ℕ → Bool
 lawful_stopped byte = nat_lt byte 2
 
 abbrev pub all_bytes : List ℕ → Bool
-all_bytes [] = true
-all_bytes (x ∷ xs) = nat_lt x 256 && all_bytes xs
+all_bytes xs = list_all (λ x. nat_lt x 256) xs
 
 -- which images are lawful: 4,106 bytes with a lawful P and a lawful stopped byte
 unfoldable pub lawful_image : List ℕ → Bool

@@ -5,10 +5,9 @@ ghost use Rattle.mos6502.specs.Events.{hears, taken_event};
 
 use machine::Event;
 use mos6502_core::cpu::Cpu;
+use mos6502_core::instructions::SWITCH_VECTOR;
 
 const TIMER_VECTOR: u16 = 0xFFFA;
-
-const SWITCH_VECTOR: u16 = 0xFFFE;
 
 // The timer is always heard while the processor runs, the switch where I is clear.
 pub fn hears(cpu: &Cpu, event: Event) -> bool
@@ -26,7 +25,7 @@ pub fn take_event(cpu: &mut Cpu, event: Event)
     ensures fits { Fits event }
 {
     let back = cpu.place;
-    let flags = cpu.p.to_byte();
+    let flags = u8::from(cpu.p);
     match event {
         Event::Timer => cpu.interrupt(back, flags, TIMER_VECTOR),
         Event::Switch(byte) => {

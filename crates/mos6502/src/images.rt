@@ -16,34 +16,23 @@ const STOPPED: u16 = 7;
 
 const LENGTH: usize = 4106;
 
-fn page(bytes: &[u8]) -> [u8; 2048]
-    requires { length bytes.now ≡ 2048 }
-    ensures { result ≡ bytes.now }
+fn processor(image: &[u8; LENGTH]) -> Cpu
+    ensures { result ≡ cpu_of image.now }
 {
-    let mut page = [0; 2048];
-    page.copy_from_slice(bytes);
-    page
-}
-
-fn processor(bytes: &[u8]) -> Cpu
-    requires { length bytes.now ≡ 4106 }
-    ensures { result ≡ cpu_of bytes.now }
-{
-    let ram = page(&bytes[10..2058]);
-    let rom = page(&bytes[2058..4106]);
+    let [a, x, y, s, p, high, low, stopped, lamp, switch, ..] = *image;
     Cpu {
-        a: bytes[0],
-        x: bytes[1],
-        y: bytes[2],
-        s: bytes[3],
-        p: Flags::from_byte(bytes[4]),
-        place: u16::from(bytes[5]) * 256 + u16::from(bytes[6]),
-        stopped: bytes[7] == 1,
+        a,
+        x,
+        y,
+        s,
+        p: Flags::from(p),
+        place: u16::from_be_bytes([high, low]),
+        stopped: stopped == 1,
         memory: Memory {
-            lamp: bytes[8],
-            switch: bytes[9],
-            ram,
-            rom,
+            lamp,
+            switch,
+            ram: image[10..2058].try_into().unwrap(),
+            rom: image[2058..].try_into().unwrap(),
         },
     }
 }
@@ -52,30 +41,29 @@ fn processor(bytes: &[u8]) -> Cpu
 pub fn load_image(bytes: &[u8]) -> Result<Cpu, GuestFault>
     ensures { result ≡ (if lawful_image bytes.now then Ok (cpu_of bytes.now) else Err (load_fault mos6502 bytes.now)) }
 {
-    if bytes.len() != LENGTH {
-        return Err(GuestFault::WrongLength);
-    }
-    if bytes[P as usize] / 16 % 4 != 2 {
+    let image: &[u8; LENGTH] = bytes.as_array().ok_or(GuestFault::WrongLength)?;
+    if image[P as usize] / 16 % 4 != 2 {
         return Err(GuestFault::Unlawful(P));
     }
-    if bytes[STOPPED as usize] >= 2 {
+    if image[STOPPED as usize] >= 2 {
         return Err(GuestFault::Unlawful(STOPPED));
     }
-    Ok(processor(bytes))
+    Ok(processor(image))
 }
 
 fn head(cpu: &Cpu) -> [u8; 10]
     ensures { result ≡ head_of cpu.now }
 {
+    let [high, low] = cpu.place.to_be_bytes();
     [
         cpu.a,
         cpu.x,
         cpu.y,
         cpu.s,
-        cpu.p.to_byte(),
-        (cpu.place / 256) as u8,
-        (cpu.place % 256) as u8,
-        cpu.stopped as u8,
+        u8::from(cpu.p),
+        high,
+        low,
+        u8::from(cpu.stopped),
         cpu.memory.lamp,
         cpu.memory.switch,
     ]

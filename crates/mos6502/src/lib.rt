@@ -2,6 +2,7 @@
 #![tactic(auto)]
 
 ghost use Rattle.std.specs.Prelude.{◌≡◌, true, length};
+ghost use Rattle.std.proofs.Common.{rules};
 ghost use Rattle.mos6502.specs.Images.{image_of, lawful_image};
 ghost use Rattle.mos6502.specs.Guest.{mos6502};
 ghost use Rattle.mos6502.specs.Laws.{image_laws, rising};
@@ -20,7 +21,8 @@ mod images;
 #[derive(Drop)]
 pub struct Mos6502 {
     cpu: Cpu,
-    ghost ok: { (lawful_image (image_of cpu) ≡ true) × (length cpu.memory.ram ≡ 2048) },
+    ghost lawful: { lawful_image (image_of cpu) ≡ true },
+    ghost whole: { length cpu.memory.ram ≡ 2048 },
 }
 
 impl Machine for Mos6502 {
@@ -30,31 +32,24 @@ impl Machine for Mos6502 {
 
     const IMAGE_BYTES: usize = 4106;
 
+    ghost IMAGE_BYTES = { 4106 };
+
     const GUEST_BYTE: u8 = 1;
 
-    ghost lawful = { λ m. m.ok.0 };
+    ghost GUEST_BYTE = { 1 };
+
+    ghost sized = { Prim.search rules };
+
+    ghost named = { Prim.search rules };
+
+    ghost lawful = { λ m. m.lawful };
 
     ghost kept = { image_laws };
 
     ghost rises = { rising };
 
-    fn image_len() -> usize {
-        Self::IMAGE_BYTES
-    }
-
-    fn guest() -> u8 {
-        Self::GUEST_BYTE
-    }
-
+    #[tactic(auto, unfolding(crate::specs::Images::image_of, crate::specs::Images::lawful_image))]
     fn fresh() -> Mos6502 {
-        let p = Flags {
-            n: false,
-            v: false,
-            d: false,
-            i: false,
-            z: false,
-            c: false,
-        };
         let memory = Memory {
             lamp: 0,
             switch: 0,
@@ -67,7 +62,7 @@ impl Machine for Mos6502 {
                 x: 0,
                 y: 0,
                 s: 0,
-                p,
+                p: Flags::default(),
                 place: 0,
                 stopped: false,
                 memory,
@@ -75,6 +70,7 @@ impl Machine for Mos6502 {
         }
     }
 
+    #[tactic(auto, using(crate::specs::Back::image_cpu, crate::specs::Back::sound_image, crate::specs::Back::cpu_sound, crate::specs::Back::lawful_parts))]
     fn load(&mut self, bytes: &[u8]) -> Result<(), GuestFault> {
         self.cpu = load_image(bytes)?;
         Ok(())
@@ -84,30 +80,35 @@ impl Machine for Mos6502 {
         save_image(&self.cpu, buffer)
     }
 
+    #[tactic(auto, using(crate::specs::Back::cpu_image))]
     fn place(&self) -> u32 {
         u32::from(self.cpu.place)
     }
 
+    #[tactic(auto, using(crate::specs::Back::cpu_image))]
     fn stopped(&self) -> bool {
         self.cpu.stopped
     }
 
+    #[tactic(auto, using(crate::specs::Back::cpu_image))]
     fn ready(&self, event: Event) -> bool {
         hears(&self.cpu, event)
     }
 
+    #[tactic(auto, using(crate::specs::Back::cpu_image))]
     fn lamp(&self) -> u8 {
         self.cpu.memory.lamp
     }
 
+    #[tactic(auto, using(crate::specs::Back::cpu_image, crate::specs::Back::sound_image, crate::specs::Back::sound_from, mos6502_core::proofs::Keeps::stepped_kept))]
     fn step(&mut self) -> Option<bool> {
         if self.stopped() {
             return None;
         }
-        let transfer = self.cpu.step();
-        Some(transfer)
+        Some(self.cpu.step())
     }
 
+    #[tactic(auto, using(crate::specs::Back::cpu_image, crate::specs::Back::sound_image, crate::specs::Back::sound_from, crate::specs::Laws::taken_kept))]
     fn take(&mut self, event: Event) -> Option<bool> {
         if !self.ready(event) {
             return None;

@@ -1,6 +1,9 @@
 -- A processor whose registers and memory are in range stays so, whatever it carries out.
-use Rattle.std.proofs.Common.{◌≡◌, ℕ, zero, suc, ◌+◌, ◌-◌, ◌*◌, ◌/◌, ◌%◌, ◌<◌, Bool, true, false, cond, eqb, ltb, leb, List, [], ◌∷◌, length, get_or, set, arith, lit<, length-set}
+use Rattle.std.proofs.Common.{◌≡◌, ℕ, zero, suc, ◌+◌, ◌-◌, ◌*◌, ◌/◌, ◌%◌, ◌<◌, Bool, true, false, eqb, ltb, leb, List, [], ◌∷◌, length, get_or, arith, lit<, length-set}
 use lib.Bits.{bit_and, bit_or, bit_xor}
+use Rattle.std.specs.List.{All}
+use Rattle.std.proofs.lemmas.Bool.{cond_both}
+use Rattle.std.proofs.lemmas.List.Elements.{All-head, All-tail, All-set}
 use Rattle.std.proofs.lemmas.Nat.{and_le_l, or_lt, xor_lt}
 use Rattle.mos6502_parts.specs.declared.flags.Flags.{Flags}
 use Rattle.mos6502_parts.specs.declared.memory.Memory.{Memory}
@@ -25,13 +28,23 @@ use Rattle.mos6502_core.specs.Addresses.{address, operand, absolute, indirect, r
 use Rattle.mos6502_core.specs.Effects.{loaded_a, loaded_x, loaded_y, stored_at, put, pushed, pulled, top, pushed_word, pulled_word, top_word, interrupted, resumed, called}
 use Rattle.mos6502_core.specs.Instructions.{put_a, worked, register, branches, implied, executed, instruction, stepped}
 
+-- each number of the list is a byte
+abbrev pub AllBytes : List ℕ → Type 0
+AllBytes xs = All (λ n. n < 256) xs
+
+-- past its end a list reads as 0
+pub byte_in : (xs : List ℕ) (k : ℕ) → AllBytes xs → get_or xs k 0 < 256
+byte_in [] k h = lit< tt
+byte_in (x ∷ xs) zero h = All-head (λ n. n < 256) x xs h
+byte_in (x ∷ xs) (suc k) h = byte_in xs k (All-tail (λ n. n < 256) x xs h)
+
 pub record SoundMemory (b : Memory) : Type 0 where
   pub lamp : b.lamp < 256
   pub switch : b.switch < 256
   pub ram : length b.ram ≡ 2048
   pub rom : length b.rom ≡ 2048
-  pub ram_bytes : (k : ℕ) → get_or b.ram k 0 < 256
-  pub rom_bytes : (k : ℕ) → get_or b.rom k 0 < 256
+  pub ram_bytes : AllBytes b.ram
+  pub rom_bytes : AllBytes b.rom
 
 pub record Sound (m : Cpu) : Type 0 where
   pub a : m.a < 256
@@ -41,41 +54,25 @@ pub record Sound (m : Cpu) : Type 0 where
   pub place : m.place < 65536
   pub memory : SoundMemory m.memory
 
--- conditionals
-
-cond_small : (c : Bool) (n x y : ℕ) → x < n → y < n → cond c x y < n
-cond_small true n x y h g = h
-cond_small false n x y h g = g
-
-cond_memory : (c : Bool) (x y : Memory) → SoundMemory x → SoundMemory y → SoundMemory (cond c x y)
-cond_memory true x y h g = h
-cond_memory false x y h g = g
-
-bit_small : (b : Bool) → bit b < 2
+pub bit_small : (b : Bool) → bit b < 2
 bit_small true = lit< tt
 bit_small false = lit< tt
 
 -- memory
 
-set_bytes : (xs : List ℕ) (i v : ℕ) → v < 256 → ((k : ℕ) → get_or xs k 0 < 256) → (k : ℕ) → get_or (set xs i v) k 0 < 256
-set_bytes [] i v h f k = f k
-set_bytes (x ∷ xs) zero v h f zero = h
-set_bytes (x ∷ xs) zero v h f (suc k) = f (suc k)
-set_bytes (x ∷ xs) (suc i) v h f zero = f zero
-set_bytes (x ∷ xs) (suc i) v h f (suc k) = set_bytes xs i v h (λ j. f (suc j)) k
-
 byte_small : (b : Memory) (at : ℕ) → SoundMemory b → byte_at b at < 256
 byte_small b at h =
-    cond_small (ltb at 0x800) 256 (get_or b.ram at 0) _ (h.ram_bytes at)
-    (cond_small (eqb at 0xD000) 256 b.lamp _ h.lamp
-    (cond_small (eqb at 0xD001) 256 b.switch _ h.switch
-    (cond_small (leb 0xF800 at) 256 (get_or b.rom (at - 0xF800) 0) 0 (h.rom_bytes (at - 0xF800)) (lit< tt))))
+    let small : ℕ → Type 0 = λ n. n < 256 in
+    cond_both (ltb at 0x800) (get_or b.ram at 0) _ small (λ _. byte_in b.ram at h.ram_bytes)
+    (λ _. cond_both (eqb at 0xD000) b.lamp _ small (λ _. h.lamp)
+    (λ _. cond_both (eqb at 0xD001) b.switch _ small (λ _. h.switch)
+    (λ _. cond_both (leb 0xF800 at) (get_or b.rom (at - 0xF800) 0) 0 small (λ _. byte_in b.rom (at - 0xF800) h.rom_bytes) (λ _. lit< tt))))
 
 word_small : (b : Memory) (low high : ℕ) → SoundMemory b → word_at b low high < 65536
 word_small b low high h = let l = byte_small b low h in let g = byte_small b high h in omega (arith, l, g)
 
 with_ram_kept : (b : Memory) (at v : ℕ) → v < 256 → SoundMemory b → SoundMemory (with_ram b at v)
-with_ram_kept b at v g h = record { lamp = h.lamp; switch = h.switch; ram = simp length-set h.ram; rom = h.rom; ram_bytes = set_bytes b.ram at v g h.ram_bytes; rom_bytes = h.rom_bytes }
+with_ram_kept b at v g h = record { lamp = h.lamp; switch = h.switch; ram = simp length-set h.ram; rom = h.rom; ram_bytes = All-set (λ n. n < 256) b.ram at v g h.ram_bytes; rom_bytes = h.rom_bytes }
 
 with_lamp_kept : (b : Memory) (v : ℕ) → v < 256 → SoundMemory b → SoundMemory (with_lamp b v)
 with_lamp_kept b v g h = record { lamp = g; switch = h.switch; ram = h.ram; rom = h.rom; ram_bytes = h.ram_bytes; rom_bytes = h.rom_bytes }
@@ -85,7 +82,8 @@ with_switch_kept b v g h = record { lamp = h.lamp; switch = g; ram = h.ram; rom 
 
 stored_kept : (b : Memory) (at v : ℕ) → v < 256 → SoundMemory b → SoundMemory (stored b at v)
 stored_kept b at v g h =
-    cond_memory (ltb at 0x800) (with_ram b at v) _ (with_ram_kept b at v g h) (cond_memory (eqb at 0xD000) (with_lamp b v) b (with_lamp_kept b v g h) h)
+    cond_both (ltb at 0x800) (with_ram b at v) _ SoundMemory (λ _. with_ram_kept b at v g h)
+    (λ _. cond_both (eqb at 0xD000) (with_lamp b v) b SoundMemory (λ _. with_lamp_kept b v g h) (λ _. h))
 
 -- registers
 
@@ -152,14 +150,7 @@ top_word_small : (m : Cpu) → Sound m → top_word m < 65536
 top_word_small m h = let l = top_small m h in let g = top_small (pulled m) (pulled_kept m h) in omega (arith, l, g)
 
 pub flag_byte_small : (p : Flags) → flag_byte p + 16 < 256
-flag_byte_small p =
-    let n = bit_small p.n in
-    let v = bit_small p.v in
-    let d = bit_small p.d in
-    let i = bit_small p.i in
-    let z = bit_small p.z in
-    let c = bit_small p.c in
-    omega (arith, n, v, d, i, z, c)
+flag_byte_small p = omega (arith, bit_small)
 
 pub interrupted_kept : (back flags vector : ℕ) (m : Cpu) → back < 65536 → flags < 256 → Sound m → Sound (interrupted back flags vector m)
 interrupted_kept back flags vector m g k h =
@@ -242,7 +233,7 @@ implied_kept Tya m h = loaded_a_kept m.y m h.y h
 relative_small : (m : Cpu) → relative m < 65536
 relative_small m =
     let offset = byte_at m.memory (past m 1) in
-    cond_small (ltb offset 128) 65536 ((past m 2 + offset) % 65536) ((past m 2 + 65536 - (256 - offset)) % 65536) (omega arith) (omega arith)
+    cond_both (ltb offset 128) ((past m 2 + offset) % 65536) ((past m 2 + 65536 - (256 - offset)) % 65536) (λ n. n < 65536) (λ _. omega arith) (λ _. omega arith)
 
 indirect_small : (m : Cpu) (at : ℕ) → Sound m → indirect m at < 65536
 indirect_small m at h = word_small m.memory at (at / 256 * 256 + (at % 256 + 1) % 256) h.memory
@@ -256,7 +247,7 @@ executed_kept (Change op mode) m h =
     (advanced_kept (1 + operand_length mode) m h)
 executed_kept (ChangeA op) m h = put_a_kept (changed op m.p m.a) _ (changed_small op m.p m.a h.a) (advanced_kept 1 m h)
 executed_kept (Branch op) m h =
-    place_kept m _ (cond_small (branches op m.p) 65536 (relative m) (past m 2) (relative_small m) (omega arith)) h
+    place_kept m _ (cond_both (branches op m.p) (relative m) (past m 2) (λ n. n < 65536) (λ _. relative_small m) (λ _. omega arith)) h
 executed_kept Jmp m h = place_kept m (absolute m 0) (omega arith) h
 executed_kept JmpIndirect m h = place_kept m (indirect m (absolute m 0)) (indirect_small m (absolute m 0) h) h
 executed_kept Jsr m h = called_kept m h

@@ -1,7 +1,0 @@
-use Rattle.std.proofs.Common.{sym, ap, ◌∙◌}
-use Rattle.mos6502_core.specs.declared.cpu.Cpu.{Cpu}
-use Rattle.mos6502.specs.Back.{cpu_image}
-use Rattle.mos6502.proofs.Mos6502Machine.place.Goals as goal
-
-pub returns : goal.returns
-returns c = c.from.ensures ∙ sym (ap (λ (m : Cpu). m.place) (cpu_image c.args.self.now.cpu c.args.self.now.ok.1))
