@@ -12,6 +12,12 @@ use std::io;
 // The names of the first ten bytes of an image; the place has two.
 static NAMES: [&str; 10] = ["A", "X", "Y", "S", "P", "PC", "", "STOP", "LAMP", "SW"];
 
+// What a case does to the machine.
+enum Action {
+    Step,
+    Take(Event),
+}
+
 // What memory holds where a case does not set it.
 fn pattern(at: u16) -> u8 {
     ((at % 256 * 7 + at / 256 * 13 + 3) % 256) as u8
@@ -20,9 +26,11 @@ fn pattern(at: u16) -> u8 {
 fn background() -> [u8; 4106] {
     let mut image = [0; 4106];
     image[4] = 0x20;
-    for i in 0..2048u16 {
-        image[10 + i as usize] = pattern(i);
-        image[2058 + i as usize] = pattern(0xF800 + i);
+    for (byte, at) in image[10..2058].iter_mut().zip(0..=0x7FF) {
+        *byte = pattern(at);
+    }
+    for (byte, at) in image[2058..].iter_mut().zip(0xF800..=0xFFFF) {
+        *byte = pattern(at);
     }
     image
 }
@@ -31,18 +39,17 @@ fn background() -> [u8; 4106] {
 fn offset(key: &str) -> Option<usize>
     ensures { IfSome result (λ k. k < 4106) }
 {
-    for i in 0..10 {
-        if NAMES[i] == key {
-            return Some(i);
-        }
+    if let Some(i) = NAMES.iter().position(|name| *name == key) {
+        return Some(i);
     }
     match u16::from_str_radix(key, 16) {
-        Ok(at) if at < 0x800 => Some(10 + at as usize),
-        Ok(at) if at >= 0xF800 => Some(2058 + (at - 0xF800) as usize),
+        Ok(at @ 0..=0x7FF) => Some(10 + usize::from(at)),
+        Ok(at @ 0xF800..=0xFFFF) => Some(2058 + usize::from(at - 0xF800)),
         _ => None,
     }
 }
 
+// Upper case alone: the library's digits are of either case.
 fn digit(byte: u8) -> Option<u8>
     ensures { IfSome result (λ d. d < 16) }
 {
@@ -56,13 +63,9 @@ fn digit(byte: u8) -> Option<u8>
 // Puts bytes into the image, from a register or an address on, digit by digit.
 fn set(image: &mut [u8; 4106], key: &str, digits: &str) -> Option<()> {
     let start = offset(key)?;
-    let digits = digits.as_bytes();
-    for k in 0..digits.len() {
-        let at = start + k / 2;
-        if at >= 4106 {
-            return None;
-        }
-        image[at] = image[at] % 16 * 16 + digit(digits[k])?;
+    for (k, byte) in digits.bytes().enumerate() {
+        let cell = image.get_mut(start + k / 2)?;
+        *cell = *cell % 16 * 16 + digit(byte)?;
     }
     Some(())
 }
@@ -78,34 +81,38 @@ fn setup(words: &str) -> Option<[u8; 4106]> {
     Some(image)
 }
 
-// Carries out an action; a setting is none.
-fn act(machine: &mut Mos6502, word: &str) -> Option<Option<bool>> {
-    if word == "step" {
-        return Some(machine.step());
+// An action of a word; a setting is none.
+fn parse_action(word: &str) -> Option<Action> {
+    match word {
+        "step" => Some(Action::Step),
+        "timer" => Some(Action::Take(Event::Timer)),
+        _ => {
+            let byte = u8::from_str_radix(word.strip_prefix("switch:")?, 16).ok()?;
+            Some(Action::Take(Event::Switch(byte)))
+        }
     }
-    if word == "timer" {
-        return Some(machine.take(Event::Timer));
+}
+
+fn act(machine: &mut Mos6502, action: Action) -> Option<bool> {
+    match action {
+        Action::Step => machine.step(),
+        Action::Take(event) => machine.take(event),
     }
-    let data = word.strip_prefix("switch:")?;
-    let byte = u8::from_str_radix(data, 16).ok()?;
-    Some(machine.take(Event::Switch(byte)))
 }
 
 // Onward, a transfer, or no unit at all.
-fn letter(report: Option<bool>) -> &'static str {
+fn letter(report: Option<bool>) -> char {
     match report {
-        Some(false) => "o",
-        Some(true) => "t",
-        None => "-",
+        Some(false) => 'o',
+        Some(true) => 't',
+        None => '-',
     }
 }
 
 // Each register, by its name.
 fn show_registers(rt: &HostRuntime, image: &[u8; 4106]) -> io::Result<()> {
-    for i in 0..10 {
-        let name = NAMES[i];
-        let byte = image[i];
-        if name.len() > 0 {
+    for (name, byte) in NAMES.iter().zip(image) {
+        if !name.is_empty() {
             print!(rt; " {name}=")?;
         }
         print!(rt; "{byte:02X}")?;
@@ -115,11 +122,11 @@ fn show_registers(rt: &HostRuntime, image: &[u8; 4106]) -> io::Result<()> {
 
 // Each byte of memory that changed, at its address.
 fn show_changes(rt: &HostRuntime, before: &[u8; 4106], after: &[u8; 4106]) -> io::Result<()> {
-    for i in 10..4106u16 {
-        let byte = after[i as usize];
-        if byte != before[i as usize] {
-            let at = if i < 2058 { i - 10 } else { i - 2058 + 0xF800 };
-            print!(rt; " {at:04X}={byte:02X}")?;
+    let addresses = (0..=0x7FF).chain(0xF800..=0xFFFFu16);
+    let cells = before[10..].iter().zip(&after[10..]);
+    for (at, (old, new)) in addresses.zip(cells) {
+        if new != old {
+            print!(rt; " {at:04X}={new:02X}")?;
         }
     }
     println!(rt; "")
@@ -128,27 +135,21 @@ fn show_changes(rt: &HostRuntime, before: &[u8; 4106], after: &[u8; 4106]) -> io
 // Carries out the actions of a case, with a letter for each.
 fn act_all(rt: &HostRuntime, machine: &mut Mos6502, words: &str) -> io::Result<()> {
     for word in words.split_whitespace() {
-        if let Some(report) = act(machine, word) {
-            let told = letter(report);
-            print!(rt; "{told}")?;
+        if let Some(action) = parse_action(word) {
+            let report = act(machine, action);
+            print!(rt; "{}", letter(report))?;
         }
     }
     Ok(())
 }
 
 fn run(rt: &HostRuntime, words: &str) -> anyhow::Result<()> {
-    let Some(before) = setup(words) else {
-        return Err(anyhow!("no such setting"));
-    };
+    let before = setup(words).ok_or_else(|| anyhow!("no such setting"))?;
     let mut machine = Mos6502::fresh();
-    if machine.load(&before).is_err() {
-        return Err(anyhow!("not lawful"));
-    }
+    machine.load(&before)?;
     act_all(rt, &mut machine, words)?;
     let mut after = [0; 4106];
-    if machine.save(&mut after).is_err() {
-        return Err(anyhow!("too short"));
-    }
+    machine.save(&mut after)?;
     show_registers(rt, &after)?;
     show_changes(rt, &before, &after)?;
     Ok(())

@@ -1,7 +1,6 @@
 // A program that lights the lamp and waits in a loop, and a switch whose handler puts the switch byte into the lamp: nine units, step by step.
 #![tactic(auto)]
 
-use anyhow::anyhow;
 use machine::{Event, Machine};
 use mos6502::Mos6502;
 
@@ -24,6 +23,7 @@ fn start_image() -> [u8; 4106] {
     image
 }
 
+// The report in words, where the table of cases has one letter for each.
 fn told(report: Option<bool>) -> &'static str {
     match report {
         Some(true) => "transfer",
@@ -34,9 +34,7 @@ fn told(report: Option<bool>) -> &'static str {
 
 fn show(rt: &HostRuntime, machine: &Mos6502, report: &str) -> anyhow::Result<()> {
     let mut image = [0; 4106];
-    if machine.save(&mut image).is_err() {
-        return Err(anyhow!("too short"));
-    }
+    machine.save(&mut image)?;
     let place = machine.place();
     let lamp = machine.lamp();
     let [a, x, y, s, p, ..] = image;
@@ -51,9 +49,7 @@ fn show(rt: &HostRuntime, machine: &Mos6502, report: &str) -> anyhow::Result<()>
 
 fn main(rt: HostRuntime) -> anyhow::Result<()> {
     let mut machine = Mos6502::fresh();
-    if machine.load(&start_image()).is_err() {
-        return Err(anyhow!("not lawful"));
-    }
+    machine.load(&start_image())?;
     show(&rt, &machine, "start")?;
     for unit in 1..10 {
         let report = if unit == 6 {
