@@ -18,9 +18,3 @@ three_parts memory head ram rom h a o =
     let third = ap (λ (xs : List ℕ). put_mid 2058 2048 xs rom) second ∙ one_more (head ++ ram) rom memory 2058 2048 long in
     let whole : length (head ++ (ram ++ rom)) ≡ 4106 = simp length-append (omega arith) in
     third ∙ rw (whole, append_assoc head ram rom)
-
--- as the three copies leave it
-pub written : (memory head ram rom head' ram' rom' : List ℕ) → length head ≡ 10 → length ram ≡ 2048 → length rom ≡ 2048
-    → head' ≡ head → ram' ≡ ram → rom' ≡ rom
-    → put_mid 2058 2048 (put_mid 10 2048 (put_mid 0 10 memory head') ram') rom' ≡ over (head ++ (ram ++ rom)) memory
-written memory head ram rom head' ram' rom' h a o e f g = rw (e, f, g) (three_parts memory head ram rom h a o)

@@ -1,5 +1,5 @@
 -- The 6502 keeps the laws of a kind of machine.
-use Rattle.std.specs.Prelude.{◌≡◌, ℕ, ◌<◌, true, false, not, List, length, refl}
+use Rattle.std.specs.Prelude.{◌≡◌, ℕ, ◌<◌, true, false, not, List, refl}
 use Rattle.std.proofs.Common.{sym, ap, subst, arith, lit<, lit≤}
 use Rattle.std.proofs.lemmas.Bool.{cond_both}
 use Rattle.machine.specs.Kinds.{Fits, Rises, ImageLaws}
@@ -62,8 +62,3 @@ rising i e _ t =
     let after = stepped (cpu_of i) in
     let back : cpu_of (image_of after) ≡ after = cpu_image after (stepped_kept (cpu_of i) (held i e)).memory.ram in
     subst (λ (m : Cpu). (cpu_of i).place < m.place) (sym back) (rises (cpu_of i) t)
-
--- what a machine is owed after its processor changed
-pub owed : (m after : Cpu) → after ≡ m → Sound m → (lawful_image (image_of after) ≡ true) × (length after.memory.ram ≡ 2048)
-owed m after e h =
-    subst (λ (x : Cpu). (lawful_image (image_of x) ≡ true) × (length x.memory.ram ≡ 2048)) (sym e) (sound_image m h, h.memory.ram)
