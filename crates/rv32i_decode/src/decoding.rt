@@ -1,39 +1,40 @@
 // From a word to its instruction: by the opcode, and then by funct3 and funct7.
 
 ghost use Rattle.std.specs.Prelude.{◌≡◌};
+ghost use Rattle.std.specs.Result.{result_ok, result_unwrap_or};
 ghost use Rattle.rv32i_decode.specs.Decoding.{operation_of, immediate_operation_of, condition_of, load_of, store_of, jalr_of, branch_of, loading_of, storing_of, op_imm_of, op_of, fence_of, system_of, decoded};
+ghost use Rattle.rv32i_decode.specs.Formats.{funct3_of};
+ghost use Rattle.rv32i_decode.specs.declared.instructions.Instruction.TheVariants.{Undefined};
 
-use super::formats::*;
+use super::formats::Word;
 use super::instructions::*;
 
+// Said of a word that is no instruction.
+#[derive(Clone, Copy)]
+pub(crate) struct NoInstruction;
+
 // The operation that funct3 and funct7 name under OP.
-fn operation(funct3: u32, funct7: u32) -> Option<Operation>
-    ensures { result ≡ operation_of funct3 funct7 }
+fn operation(funct3: u32, funct7: u32) -> Result<Operation, NoInstruction>
+    ensures { result_ok result ≡ operation_of funct3 funct7 }
 {
-    match funct7 {
-        0x00 => match funct3 {
-            0 => Some(Operation::Add),
-            1 => Some(Operation::Sll),
-            2 => Some(Operation::Slt),
-            3 => Some(Operation::Sltu),
-            4 => Some(Operation::Xor),
-            5 => Some(Operation::Srl),
-            6 => Some(Operation::Or),
-            7 => Some(Operation::And),
-            _ => None,
-        },
-        0x20 => match funct3 {
-            0 => Some(Operation::Sub),
-            5 => Some(Operation::Sra),
-            _ => None,
-        },
-        _ => None,
+    match (funct7, funct3) {
+        (0x00, 0) => Ok(Operation::Add),
+        (0x00, 1) => Ok(Operation::Sll),
+        (0x00, 2) => Ok(Operation::Slt),
+        (0x00, 3) => Ok(Operation::Sltu),
+        (0x00, 4) => Ok(Operation::Xor),
+        (0x00, 5) => Ok(Operation::Srl),
+        (0x00, 6) => Ok(Operation::Or),
+        (0x00, 7) => Ok(Operation::And),
+        (0x20, 0) => Ok(Operation::Sub),
+        (0x20, 5) => Ok(Operation::Sra),
+        _ => Err(NoInstruction),
     }
 }
 
 // Under OP-IMM the immediate stands where funct7 would, but for the shifts.
-fn immediate_operation(funct3: u32, funct7: u32) -> Option<Operation>
-    ensures { result ≡ immediate_operation_of funct3 funct7 }
+fn immediate_operation(funct3: u32, funct7: u32) -> Result<Operation, NoInstruction>
+    ensures { result_ok result ≡ immediate_operation_of funct3 funct7 }
 {
     match funct3 {
         1 => operation(1, funct7),
@@ -42,126 +43,125 @@ fn immediate_operation(funct3: u32, funct7: u32) -> Option<Operation>
     }
 }
 
-fn condition(funct3: u32) -> Option<Condition>
-    ensures { result ≡ condition_of funct3 }
-{
-    match funct3 {
-        0 => Some(Condition::Eq),
-        1 => Some(Condition::Ne),
-        4 => Some(Condition::Lt),
-        5 => Some(Condition::Ge),
-        6 => Some(Condition::Ltu),
-        7 => Some(Condition::Geu),
-        _ => None,
+impl TryFrom<Word> for Condition {
+    type Error = NoInstruction;
+
+    ghost try_from_gives = { λ w r. result_ok r ≡ condition_of (funct3_of w.0) };
+
+    fn try_from(word: Word) -> Result<Condition, NoInstruction> {
+        match word.funct3() {
+            0 => Ok(Condition::Eq),
+            1 => Ok(Condition::Ne),
+            4 => Ok(Condition::Lt),
+            5 => Ok(Condition::Ge),
+            6 => Ok(Condition::Ltu),
+            7 => Ok(Condition::Geu),
+            _ => Err(NoInstruction),
+        }
     }
 }
 
-fn load_kind(funct3: u32) -> Option<LoadKind>
-    ensures { result ≡ load_of funct3 }
-{
-    match funct3 {
-        0 => Some(LoadKind::Lb),
-        1 => Some(LoadKind::Lh),
-        2 => Some(LoadKind::Lw),
-        4 => Some(LoadKind::Lbu),
-        5 => Some(LoadKind::Lhu),
-        _ => None,
+impl TryFrom<Word> for LoadKind {
+    type Error = NoInstruction;
+
+    ghost try_from_gives = { λ w r. result_ok r ≡ load_of (funct3_of w.0) };
+
+    fn try_from(word: Word) -> Result<LoadKind, NoInstruction> {
+        match word.funct3() {
+            0 => Ok(LoadKind::Lb),
+            1 => Ok(LoadKind::Lh),
+            2 => Ok(LoadKind::Lw),
+            4 => Ok(LoadKind::Lbu),
+            5 => Ok(LoadKind::Lhu),
+            _ => Err(NoInstruction),
+        }
     }
 }
 
-fn store_kind(funct3: u32) -> Option<StoreKind>
-    ensures { result ≡ store_of funct3 }
-{
-    match funct3 {
-        0 => Some(StoreKind::Sb),
-        1 => Some(StoreKind::Sh),
-        2 => Some(StoreKind::Sw),
-        _ => None,
+impl TryFrom<Word> for StoreKind {
+    type Error = NoInstruction;
+
+    ghost try_from_gives = { λ w r. result_ok r ≡ store_of (funct3_of w.0) };
+
+    fn try_from(word: Word) -> Result<StoreKind, NoInstruction> {
+        match word.funct3() {
+            0 => Ok(StoreKind::Sb),
+            1 => Ok(StoreKind::Sh),
+            2 => Ok(StoreKind::Sw),
+            _ => Err(NoInstruction),
+        }
     }
 }
 
-fn jalr(word: u32) -> Instruction
-    ensures { result ≡ jalr_of word }
+fn jalr(word: Word) -> Result<Instruction, NoInstruction>
+    ensures { result_unwrap_or result Undefined ≡ jalr_of word.0 }
 {
-    match funct3(word) {
-        0 => Instruction::Jalr(i_type_of(word)),
-        _ => Instruction::Undefined,
+    match word.funct3() {
+        0 => Ok(Instruction::Jalr(word.into())),
+        _ => Err(NoInstruction),
     }
 }
 
-fn branch(word: u32) -> Instruction
-    ensures { result ≡ branch_of word }
+fn branch(word: Word) -> Result<Instruction, NoInstruction>
+    ensures { result_unwrap_or result Undefined ≡ branch_of word.0 }
 {
-    match condition(funct3(word)) {
-        Some(condition) => Instruction::Branch(condition, b_type_of(word)),
-        None => Instruction::Undefined,
+    Ok(Instruction::Branch(word.try_into()?, word.into()))
+}
+
+fn load(word: Word) -> Result<Instruction, NoInstruction>
+    ensures { result_unwrap_or result Undefined ≡ loading_of word.0 }
+{
+    Ok(Instruction::Load(word.try_into()?, word.into()))
+}
+
+fn store(word: Word) -> Result<Instruction, NoInstruction>
+    ensures { result_unwrap_or result Undefined ≡ storing_of word.0 }
+{
+    Ok(Instruction::Store(word.try_into()?, word.into()))
+}
+
+fn op_imm(word: Word) -> Result<Instruction, NoInstruction>
+    ensures { result_unwrap_or result Undefined ≡ op_imm_of word.0 }
+{
+    let operation = immediate_operation(word.funct3(), word.funct7())?;
+    Ok(Instruction::OpImm(operation, word.into()))
+}
+
+fn op(word: Word) -> Result<Instruction, NoInstruction>
+    ensures { result_unwrap_or result Undefined ≡ op_of word.0 }
+{
+    let operation = operation(word.funct3(), word.funct7())?;
+    Ok(Instruction::Op(operation, word.into()))
+}
+
+fn fence(word: Word) -> Result<Instruction, NoInstruction>
+    ensures { result_unwrap_or result Undefined ≡ fence_of word.0 }
+{
+    match word.funct3() {
+        0 => Ok(Instruction::Fence),
+        _ => Err(NoInstruction),
     }
 }
 
-fn load(word: u32) -> Instruction
-    ensures { result ≡ loading_of word }
+fn system(word: Word) -> Result<Instruction, NoInstruction>
+    ensures { result_unwrap_or result Undefined ≡ system_of word.0 }
 {
-    match load_kind(funct3(word)) {
-        Some(kind) => Instruction::Load(kind, i_type_of(word)),
-        None => Instruction::Undefined,
+    match word.0 {
+        0x0000_0073 => Ok(Instruction::Ecall),
+        0x0010_0073 => Ok(Instruction::Ebreak),
+        0x3020_0073 => Ok(Instruction::Return),
+        _ => Err(NoInstruction),
     }
 }
 
-fn store(word: u32) -> Instruction
-    ensures { result ≡ storing_of word }
+#[tactic(auto, unfolding(crate::specs::Decoding::decoded))]
+fn instruction(word: Word) -> Result<Instruction, NoInstruction>
+    ensures { result_unwrap_or result Undefined ≡ decoded word.0 }
 {
-    match store_kind(funct3(word)) {
-        Some(kind) => Instruction::Store(kind, s_type_of(word)),
-        None => Instruction::Undefined,
-    }
-}
-
-fn op_imm(word: u32) -> Instruction
-    ensures { result ≡ op_imm_of word }
-{
-    match immediate_operation(funct3(word), funct7(word)) {
-        Some(operation) => Instruction::OpImm(operation, i_type_of(word)),
-        None => Instruction::Undefined,
-    }
-}
-
-fn op(word: u32) -> Instruction
-    ensures { result ≡ op_of word }
-{
-    match operation(funct3(word), funct7(word)) {
-        Some(operation) => Instruction::Op(operation, r_type_of(word)),
-        None => Instruction::Undefined,
-    }
-}
-
-fn fence(word: u32) -> Instruction
-    ensures { result ≡ fence_of word }
-{
-    match funct3(word) {
-        0 => Instruction::Fence,
-        _ => Instruction::Undefined,
-    }
-}
-
-fn system(word: u32) -> Instruction
-    ensures { result ≡ system_of word }
-{
-    match word {
-        0x0000_0073 => Instruction::Ecall,
-        0x0010_0073 => Instruction::Ebreak,
-        0x3020_0073 => Instruction::Return,
-        _ => Instruction::Undefined,
-    }
-}
-
-// The instruction that a word is.
-pub fn decode(word: u32) -> Instruction
-    ensures { result ≡ decoded word }
-{
-    match opcode(word) {
-        0x37 => Instruction::Lui(u_type_of(word)),
-        0x17 => Instruction::Auipc(u_type_of(word)),
-        0x6f => Instruction::Jal(j_type_of(word)),
+    match word.opcode() {
+        0x37 => Ok(Instruction::Lui(word.into())),
+        0x17 => Ok(Instruction::Auipc(word.into())),
+        0x6f => Ok(Instruction::Jal(word.into())),
         0x67 => jalr(word),
         0x63 => branch(word),
         0x03 => load(word),
@@ -170,6 +170,13 @@ pub fn decode(word: u32) -> Instruction
         0x33 => op(word),
         0x0f => fence(word),
         0x73 => system(word),
-        _ => Instruction::Undefined,
+        _ => Err(NoInstruction),
     }
+}
+
+// The instruction that a word is.
+pub fn decode(word: u32) -> Instruction
+    ensures { result ≡ decoded word }
+{
+    instruction(Word(word)).unwrap_or(Instruction::Undefined)
 }

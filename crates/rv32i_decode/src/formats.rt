@@ -5,18 +5,104 @@ ghost use Rattle.rv32i_decode.specs.Formats.{inst, sign_extended, opcode_of, rd_
 
 use super::instructions::*;
 
-// inst[high:low], a part of the word but not the whole.
-fn bits(word: u32, high: u32, low: u32) -> u32
-    requires { (low ≤ high) × ((high < 32) × (high + 1 - low < 32)) }
-    ensures value { result ≡ inst word high low }
-    ensures small { result < 2 ^ (high + 1 - low) }
-{
-    (word >> low) % (1 << (high + 1 - low))
+// A word that may be an instruction.
+#[derive(Clone, Copy)]
+pub(crate) struct Word(pub(crate) u32);
+
+impl Word {
+    // inst[high:low], a part of the word but not the whole.
+    #[tactic(auto, using(std::proofs::lemmas::Nat::one_shl), unfolding(crate::specs::Formats::inst))]
+    fn bits(self, high: u32, low: u32) -> u32
+        requires ordered { low ≤ high }
+        requires inside { high < 32 }
+        requires part { high + 1 - low < 32 }
+        ensures value { result ≡ inst self.0 high low }
+        ensures small { result < 2 ^ (high + 1 - low) }
+    {
+        (self.0 >> low) % (1 << (high + 1 - low))
+    }
+
+    pub(crate) fn opcode(self) -> u32
+        ensures { result ≡ opcode_of self.0 }
+    {
+        self.bits(6, 0)
+    }
+
+    fn rd(self) -> u8
+        ensures { result ≡ rd_of self.0 }
+    {
+        self.bits(11, 7) as u8
+    }
+
+    pub(crate) fn funct3(self) -> u32
+        ensures { result ≡ funct3_of self.0 }
+    {
+        self.bits(14, 12)
+    }
+
+    fn rs1(self) -> u8
+        ensures { result ≡ rs1_of self.0 }
+    {
+        self.bits(19, 15) as u8
+    }
+
+    fn rs2(self) -> u8
+        ensures { result ≡ rs2_of self.0 }
+    {
+        self.bits(24, 20) as u8
+    }
+
+    pub(crate) fn funct7(self) -> u32
+        ensures { result ≡ funct7_of self.0 }
+    {
+        self.bits(31, 25)
+    }
+
+    fn immediate_i(self) -> u32
+        ensures { result ≡ imm_i self.0 }
+    {
+        sign_extend(12, self.bits(31, 20))
+    }
+
+    fn immediate_s(self) -> u32
+        ensures { result ≡ imm_s self.0 }
+    {
+        sign_extend(12, (self.bits(31, 25) << 5) + self.bits(11, 7))
+    }
+
+    fn immediate_b(self) -> u32
+        ensures { result ≡ imm_b self.0 }
+    {
+        let high = (self.bits(31, 31) << 12) + (self.bits(7, 7) << 11);
+        sign_extend(
+            13,
+            high + (self.bits(30, 25) << 5) + (self.bits(11, 8) << 1),
+        )
+    }
+
+    fn immediate_u(self) -> u32
+        ensures { result ≡ imm_u self.0 }
+    {
+        self.bits(31, 12) << 12
+    }
+
+    fn immediate_j(self) -> u32
+        ensures { result ≡ imm_j self.0 }
+    {
+        let high = (self.bits(31, 31) << 20) + (self.bits(19, 12) << 12);
+        sign_extend(
+            21,
+            high + (self.bits(20, 20) << 11) + (self.bits(30, 21) << 1),
+        )
+    }
 }
 
 // The low `width` bits hold a two's complement number; its sign is carried on to 32 bits.
+#[tactic(auto, using(std::proofs::lemmas::Nat::one_shl, std::proofs::lemmas::Nat::pow_below), unfolding(crate::specs::Formats::sign_extended))]
 fn sign_extend(width: u32, value: u32) -> u32
-    requires { (0 < width) × ((width < 32) × (value < 2 ^ width)) }
+    requires some { 0 < width }
+    requires part { width < 32 }
+    requires fits { value < 2 ^ width }
     ensures { result ≡ sign_extended width value }
 {
     if value < 1 << (width - 1) {
@@ -26,134 +112,72 @@ fn sign_extend(width: u32, value: u32) -> u32
     }
 }
 
-pub(crate) fn opcode(word: u32) -> u32
-    ensures { result ≡ opcode_of word }
-{
-    bits(word, 6, 0)
-}
+impl From<Word> for RType {
+    ghost from_gives = { λ w f. f ≡ r_type w.0 };
 
-fn rd(word: u32) -> u8
-    ensures { result ≡ rd_of word }
-{
-    bits(word, 11, 7) as u8
-}
-
-pub(crate) fn funct3(word: u32) -> u32
-    ensures { result ≡ funct3_of word }
-{
-    bits(word, 14, 12)
-}
-
-fn rs1(word: u32) -> u8
-    ensures { result ≡ rs1_of word }
-{
-    bits(word, 19, 15) as u8
-}
-
-fn rs2(word: u32) -> u8
-    ensures { result ≡ rs2_of word }
-{
-    bits(word, 24, 20) as u8
-}
-
-pub(crate) fn funct7(word: u32) -> u32
-    ensures { result ≡ funct7_of word }
-{
-    bits(word, 31, 25)
-}
-
-fn immediate_i(word: u32) -> u32
-    ensures { result ≡ imm_i word }
-{
-    sign_extend(12, bits(word, 31, 20))
-}
-
-fn immediate_s(word: u32) -> u32
-    ensures { result ≡ imm_s word }
-{
-    sign_extend(12, (bits(word, 31, 25) << 5) + bits(word, 11, 7))
-}
-
-fn immediate_b(word: u32) -> u32
-    ensures { result ≡ imm_b word }
-{
-    let high = (bits(word, 31, 31) << 12) + (bits(word, 7, 7) << 11);
-    sign_extend(
-        13,
-        high + (bits(word, 30, 25) << 5) + (bits(word, 11, 8) << 1),
-    )
-}
-
-fn immediate_u(word: u32) -> u32
-    ensures { result ≡ imm_u word }
-{
-    bits(word, 31, 12) << 12
-}
-
-fn immediate_j(word: u32) -> u32
-    ensures { result ≡ imm_j word }
-{
-    let high = (bits(word, 31, 31) << 20) + (bits(word, 19, 12) << 12);
-    sign_extend(
-        21,
-        high + (bits(word, 20, 20) << 11) + (bits(word, 30, 21) << 1),
-    )
-}
-
-pub(crate) fn r_type_of(word: u32) -> RType
-    ensures { result ≡ r_type word }
-{
-    RType {
-        rd: rd(word),
-        rs1: rs1(word),
-        rs2: rs2(word),
+    fn from(word: Word) -> RType {
+        RType {
+            rd: word.rd(),
+            rs1: word.rs1(),
+            rs2: word.rs2(),
+        }
     }
 }
 
-pub(crate) fn i_type_of(word: u32) -> IType
-    ensures { result ≡ i_type word }
-{
-    IType {
-        rd: rd(word),
-        rs1: rs1(word),
-        imm: immediate_i(word),
+impl From<Word> for IType {
+    ghost from_gives = { λ w f. f ≡ i_type w.0 };
+
+    fn from(word: Word) -> IType {
+        IType {
+            rd: word.rd(),
+            rs1: word.rs1(),
+            imm: word.immediate_i(),
+        }
     }
 }
 
-pub(crate) fn s_type_of(word: u32) -> SType
-    ensures { result ≡ s_type word }
-{
-    SType {
-        rs1: rs1(word),
-        rs2: rs2(word),
-        imm: immediate_s(word),
+impl From<Word> for SType {
+    ghost from_gives = { λ w f. f ≡ s_type w.0 };
+
+    fn from(word: Word) -> SType {
+        SType {
+            rs1: word.rs1(),
+            rs2: word.rs2(),
+            imm: word.immediate_s(),
+        }
     }
 }
 
-pub(crate) fn b_type_of(word: u32) -> BType
-    ensures { result ≡ b_type word }
-{
-    BType {
-        rs1: rs1(word),
-        rs2: rs2(word),
-        imm: immediate_b(word),
+impl From<Word> for BType {
+    ghost from_gives = { λ w f. f ≡ b_type w.0 };
+
+    fn from(word: Word) -> BType {
+        BType {
+            rs1: word.rs1(),
+            rs2: word.rs2(),
+            imm: word.immediate_b(),
+        }
     }
 }
 
-pub(crate) fn u_type_of(word: u32) -> UType
-    ensures { result ≡ u_type word }
-{
-    UType {
-        rd: rd(word),
-        imm: immediate_u(word),
+impl From<Word> for UType {
+    ghost from_gives = { λ w f. f ≡ u_type w.0 };
+
+    fn from(word: Word) -> UType {
+        UType {
+            rd: word.rd(),
+            imm: word.immediate_u(),
+        }
     }
 }
 
-pub(crate) fn j_type_of(word: u32) -> JType
-    ensures { result ≡ j_type word }
-{
-    JType {
-        rd: rd(word),
-        imm: immediate_j(word),
+impl From<Word> for JType {
+    ghost from_gives = { λ w f. f ≡ j_type w.0 };
+
+    fn from(word: Word) -> JType {
+        JType {
+            rd: word.rd(),
+            imm: word.immediate_j(),
+        }
     }
 }

@@ -42,7 +42,8 @@ pub enum StoreKind {
     Sw,
 }
 
-// The operands of each format.
+// The operands of each format. B has the fields of S and J those of U, but the word holds their immediates otherwise: as types of their own each
+// has one conversion from the word.
 #[derive(Clone, Copy)]
 pub struct RType {
     pub rd: u8,
