@@ -1,2 +1,3 @@
-pub mod Seen
-pub mod Verdicts
+mod Seen
+mod Cuts
+mod Verdicts

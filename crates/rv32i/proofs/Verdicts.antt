@@ -9,7 +9,7 @@ use Rattle.rv32i.specs.Guest.{rv32i}
 use Rattle.rv32i.specs.Bytes.{bytes_from}
 
 pub record Refused (i : List ℕ) (f : GuestFault) : Type 0 where
-  pub verdict : false ≡ lawful i
+  pub verdict : lawful i ≡ false
   pub fault : f ≡ load_fault rv32i i
 
 pub wrong_length : (i : List ℕ) → (length i ≡ 4232 → ⊥) → Refused i WrongLength
@@ -17,7 +17,7 @@ unfolding lawful
 wrong_length i h =
     let e = ne_eqb (length i) 4232 h in
     record {
-      verdict = sym (and_left (eqb (length i) 4232) (bytes i && well_formed i) e);
+      verdict = and_left (eqb (length i) 4232) (bytes i && well_formed i) e;
       fault = sym (cond-false (eqb (length i) 4232) (Unlawful (offending i)) WrongLength e);
     }
 
@@ -27,7 +27,7 @@ unfolding lawful
 unlawful i k l w o =
     let e = eq-eqb (length i) 4232 l in
     record {
-      verdict = sym (and_right (eqb (length i) 4232) (bytes i && well_formed i) (and_right (bytes i) (well_formed i) w));
+      verdict = and_right (eqb (length i) 4232) (bytes i && well_formed i) (and_right (bytes i) (well_formed i) w);
       fault = sym (cond-true (eqb (length i) 4232) (Unlawful (offending i)) WrongLength e ∙ ap Unlawful o);
     }
 
@@ -58,8 +58,8 @@ module _ (i : List ℕ) (l : length i ≡ 4232) where
         pub bad_stopped : flag (get_or i 133 0) ≡ false → Refused i (Unlawful 133)
         bad_stopped s = unlawful i 133 l (λ j. rules (p j) (q j) (e j) (s j)) (λ j. first_broken (p j) (q j) (e j))
 
-        pub accepted : ((k : ℕ) → get_or i k 0 < 256) → flag (get_or i 133 0) ≡ true → true ≡ lawful i
+        pub accepted : ((k : ℕ) → get_or i k 0 < 256) → flag (get_or i 133 0) ≡ true → lawful i ≡ true
         unfolding lawful
         accepted b s =
-            sym (and_from (eqb (length i) 4232) (bytes i && well_formed i) (eq-eqb (length i) 4232 l)
-            (and_from (bytes i) (well_formed i) (bytes_from i b) (λ j. rules (p j) (q j) (e j) (s j))))
+            and_from (eqb (length i) 4232) (bytes i && well_formed i) (eq-eqb (length i) 4232 l)
+            (and_from (bytes i) (well_formed i) (bytes_from i b) (λ j. rules (p j) (q j) (e j) (s j)))

@@ -6,3 +6,4 @@ pub mod Bytes
 pub mod ImagesLemmas
 pub mod Buffers
 pub mod Soundness
+pub mod Parts

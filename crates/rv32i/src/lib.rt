@@ -9,6 +9,7 @@ ghost use Rattle.rv32i.specs.Images.{image_of, core_of, lawful};
 ghost use Rattle.rv32i.specs.Guest.{rv32i};
 ghost use Rattle.rv32i.specs.Laws.{laws};
 ghost use Rattle.rv32i.specs.Laws;
+ghost use Rattle.std.proofs.Common.{rules};
 
 use machine::{Event, GuestFault, Machine};
 use rv32i_core::bus::Bus;
@@ -30,21 +31,21 @@ impl Machine for Rv32i {
 
     const IMAGE_BYTES: usize = image::LENGTH;
 
+    ghost IMAGE_BYTES = { 4232 };
+
     const GUEST_BYTE: u8 = 2;
+
+    ghost GUEST_BYTE = { 2 };
+
+    ghost sized = { Prim.search rules };
+
+    ghost named = { Prim.search rules };
 
     ghost lawful = { λ m. m.sound };
 
     ghost kept = { laws };
 
     ghost rises = { Laws.rises };
-
-    fn image_len() -> usize {
-        Self::IMAGE_BYTES
-    }
-
-    fn guest() -> u8 {
-        Self::GUEST_BYTE
-    }
 
     fn fresh() -> Rv32i {
         let registers = Registers { x: [0; 31] };
@@ -67,16 +68,15 @@ impl Machine for Rv32i {
     }
 
     fn load(&mut self, bytes: &[u8]) -> Result<(), GuestFault> {
-        image::check(bytes)?;
-        self.state = image::read(bytes);
+        self.state = image::read(bytes)?;
         Ok(())
     }
 
     fn save(&self, buffer: &mut [u8]) -> Result<usize, GuestFault> {
-        if buffer.len() < image::LENGTH {
-            return Err(GuestFault::ShortBuffer(image::LENGTH));
-        }
-        image::write(&self.state, buffer);
+        let image = buffer
+            .first_chunk_mut()
+            .ok_or(GuestFault::ShortBuffer(image::LENGTH))?;
+        image::write(&self.state, image);
         Ok(image::LENGTH)
     }
 

@@ -37,8 +37,7 @@ fn immediate_operation(funct3: u32, funct7: u32) -> Result<Operation, NoInstruct
     ensures { result_ok result ≡ immediate_operation_of funct3 funct7 }
 {
     match funct3 {
-        1 => operation(1, funct7),
-        5 => operation(5, funct7),
+        1 | 5 => operation(funct3, funct7),
         _ => operation(funct3, 0),
     }
 }
