@@ -51,7 +51,7 @@ to_lawful i l =
     and_from (length i == 4232) (bytes i && well_formed i) (eq-eqb (length i) 4232 l.long) b
 
 -- a word of bytes fits 32 bits
-word_fits : (i : List ℕ) (k : ℕ) → ((j : ℕ) → slice_index i j < 256) → word_in i k < 2 ^ 32
+pub word_fits : (i : List ℕ) (k : ℕ) → ((j : ℕ) → slice_index i j < 256) → word_in i k < 2 ^ 32
 word_fits i k f =
     let a = f k in
     let b = f (k + 1) in

@@ -3,7 +3,7 @@
 ghost use Rattle.std.specs.Prelude.{◌≡◌, ℕ, ◌^◌, ◌<◌, ◌==◌, true, false, length, slice_index, MatchOption, MatchResult};
 ghost use Rattle.machine.specs.Faults.{load_fault};
 ghost use Rattle.machine.specs.declared.GuestFault.TheVariants.{Unlawful};
-ghost use Rattle.rv32i.specs.Images.{words, word_in, words_in, image_of, core_of, aligned, flag, lawful, Sized};
+ghost use Rattle.rv32i.specs.Images.{words, word_in, words_in, image_of, core_of, aligned, flag, lawful};
 ghost use Rattle.rv32i.specs.Parts.{PartsIn};
 ghost use Rattle.rv32i.specs.Guest.{rv32i};
 
@@ -147,12 +147,4 @@ pub(crate) fn read(bytes: &[u8]) -> Result<State, GuestFault>
             switch: parts.switch,
         },
     })
-}
-
-// The sizes of a core's parts, as their types say: nothing is done.
-pub(crate) fn sized(state: &State)
-    ensures { Sized state.now }
-{
-    let _words = (state.registers.x[0], state.place, state.saved);
-    let _memory = (state.bus.rom[0], state.bus.ram[0]);
 }

@@ -47,6 +47,7 @@ impl Machine for Rv32i {
 
     ghost rises = { Laws.rises };
 
+    #[tactic(auto, unfolding(crate::specs::Images::image_of, crate::specs::Images::core_of, crate::specs::Images::words_in, crate::specs::Images::lawful, crate::specs::Images::blank))]
     fn fresh() -> Rv32i {
         let registers = Registers { x: [0; 31] };
         let bus = Bus {
@@ -80,19 +81,23 @@ impl Machine for Rv32i {
         Ok(image::LENGTH)
     }
 
+    #[tactic(auto, using(crate::proofs::Seen::place_seen))]
     fn place(&self) -> u32 {
         self.state.place
     }
 
+    #[tactic(auto, using(crate::proofs::Seen::stopped_seen))]
     fn stopped(&self) -> bool {
         self.state.stopped
     }
 
     // Either event is ready while events are enabled and the guest runs.
+    #[tactic(auto, using(crate::proofs::Seen::enabled_seen))]
     fn ready(&self, _event: Event) -> bool {
         self.state.enabled && !self.stopped()
     }
 
+    #[tactic(auto, using(crate::proofs::Seen::lamp_seen))]
     fn lamp(&self) -> u8 {
         self.state.bus.lamp
     }

@@ -6,7 +6,6 @@ ghost use Rattle.rv32i_core.specs.Execution.{stepped, transfers};
 ghost use Rattle.rv32i.specs.Images.{Sized};
 ghost use Rattle.rv32i.specs.Events.{interrupted};
 
-use super::image::sized;
 use machine::Event;
 use rv32i_core::state::State;
 
@@ -14,19 +13,22 @@ const TIMER_HANDLER: u32 = 0x10;
 
 const SWITCH_HANDLER: u32 = 0x20;
 
-// Carries out the instruction at the place, and tells whether it was a transfer.
+// Carries out the instruction at the place, and tells whether it was a transfer. What the types of the core's parts say of their sizes is known once
+// the parts are read.
 pub(crate) fn carry_out(state: &mut State) -> bool
     ensures answer { result ≡ transfers state.old }
     ensures next { state.new ≡ stepped state.old }
     ensures sizes { Sized state.new }
 {
     let transfer = state.step();
-    sized(state);
+    let _words = (state.registers.x[0], state.place, state.saved);
+    let _memory = (state.bus.rom[0], state.bus.ram[0]);
     transfer
 }
 
-// Saves the place, lets events wait, and begins the event's handler.
-fn enter(state: &mut State, event: Event)
+// Takes an event: saves the place, lets events wait, and begins the event's handler.
+#[tactic(auto, unfolding(crate::specs::Events::interrupted))]
+pub(crate) fn interrupt(state: &mut State, event: Event)
     ensures after { state.new ≡ interrupted event state.old }
     ensures data { Fits event }
 {
@@ -39,14 +41,4 @@ fn enter(state: &mut State, event: Event)
             state.place = SWITCH_HANDLER;
         }
     }
-}
-
-// Takes an event.
-pub(crate) fn interrupt(state: &mut State, event: Event)
-    ensures after { state.new ≡ interrupted event state.old }
-    ensures data { Fits event }
-    ensures sizes { Sized state.new }
-{
-    enter(state, event);
-    sized(state);
 }
