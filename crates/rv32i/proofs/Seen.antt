@@ -1,18 +1,18 @@
 -- From what an instruction or an event does to the core, to what it does to the image.
-use Rattle.std.specs.Prelude.{◌≡◌, ℕ, zero, suc, ◌+◌, ◌*◌, ◌^◌, ◌<◌, Bool, true, false, List, map, Some, None, slice_index}
+use Rattle.std.specs.Prelude.{◌≡◌, ℕ, zero, suc, ◌+◌, ◌*◌, ◌^◌, ◌<◌, true, List, map, slice_index}
 use Rattle.std.proofs.Common.{sym, ap, subst, ◌∙◌, arith}
 use Rattle.std.specs.List.{range_with_len}
-use Rattle.std.proofs.lemmas.Bool.{cond-true, cond-false}
 use Rattle.machine.specs.declared.Event.{Event}
 use Rattle.machine.specs.declared.Event.TheVariants.{Timer, Switch}
-use Rattle.machine.specs.Faults.{step_answer, stepped as next_image}
+use Rattle.machine.specs.Kinds.{Fits}
 use Rattle.rv32i_core.specs.declared.state.State.{State}
 use Rattle.rv32i_core.specs.Execution.{stepped, transfers}
 use Rattle.rv32i.specs.Images.{image_of, core_of, word_in, words_in, place_in, stopped_in, enabled_in, lamp_in, lawful, Sized}
 use Rattle.rv32i.specs.Bytes.{byte_at}
-use Rattle.rv32i.specs.Laws.{from_lawful, core_sound, word_fits}
+use Rattle.rv32i.specs.ImagesLemmas.{core_told}
+use Rattle.rv32i.specs.Laws.{from_lawful, core_sound, word_fits, next_lawful, taken_lawful}
 use Rattle.rv32i.specs.Events.{interrupted}
-use Rattle.rv32i.specs.Guest.{next, moves, taken, rv32i}
+use Rattle.rv32i.specs.Guest.{next, moves, taken}
 
 -- the sizes of the core of a lawful image
 all_fit : (f : ℕ → ℕ) (b : ℕ) → ((k : ℕ) → f k < b) → 0 < b → (a n k : ℕ) → slice_index (map f (range_with_len a n)) k < b
@@ -34,6 +34,14 @@ core_sized i h =
       ram_size = s.bus_sound.ram_size;
     }
 
+-- an event keeps the sizes
+sizes_kept : (s : State) (e : Event) → Sized s → Sized (interrupted e s)
+unfolding interrupted
+sizes_kept s Timer z =
+    record { register_count = z.register_count; register_fits = z.register_fits; place_fits = omega arith; saved_fits = z.place_fits; rom_size = z.rom_size; ram_size = z.ram_size }
+sizes_kept s (Switch d) z =
+    record { register_count = z.register_count; register_fits = z.register_fits; place_fits = omega arith; saved_fits = z.place_fits; rom_size = z.rom_size; ram_size = z.ram_size }
+
 -- what can be seen of a core that its image tells whole
 module _ (s : State) (whole : core_of (image_of s) ≡ s) where
   pub place_seen : place_in (image_of s) ≡ s.place
@@ -52,40 +60,29 @@ module _ (s : State) (whole : core_of (image_of s) ≡ s) where
   unfolding core_of
   lamp_seen = ap (λ (t : State). t.bus.lamp) whole
 
+  -- the sizes of its parts
+  sizes_seen : lawful (image_of s) ≡ true → Sized s
+  sizes_seen h = subst Sized whole (core_sized (image_of s) h)
+
   -- a step of a running core
-  pub next_seen : (t : State) → t ≡ stepped s → image_of t ≡ next (image_of s)
+  pub next_seen : next (image_of s) ≡ image_of (stepped s)
   unfolding next
-  next_seen t e = ap image_of e ∙ ap (λ (u : State). image_of (stepped u)) (sym whole)
+  next_seen = ap (λ (u : State). image_of (stepped u)) whole
 
   pub moves_seen : moves (image_of s) ≡ transfers s
   unfolding moves
   moves_seen = ap transfers whole
 
+  pub next_sound : lawful (image_of s) ≡ true → lawful (image_of (stepped s)) ≡ true
+  next_sound h = ap lawful (sym next_seen) ∙ next_lawful (image_of s) h
+
   -- an event
-  pub taken_seen : (t : State) (e : Event) → t ≡ interrupted e s → image_of t ≡ taken e (image_of s)
+  pub taken_seen : (e : Event) → taken e (image_of s) ≡ image_of (interrupted e s)
   unfolding taken
-  taken_seen t e p = ap image_of p ∙ ap (λ (u : State). image_of (interrupted e u)) (sym whole)
+  taken_seen e = ap (λ (u : State). image_of (interrupted e u)) whole
 
-  -- the sizes of its parts
-  pub sizes_seen : lawful (image_of s) ≡ true → Sized s
-  sizes_seen h = subst Sized whole (core_sized (image_of s) h)
+  pub taken_sound : (e : Event) → Fits e → lawful (image_of s) ≡ true → lawful (image_of (interrupted e s)) ≡ true
+  taken_sound e f h = ap lawful (sym (taken_seen e)) ∙ taken_lawful (image_of s) e f h
 
--- an event keeps the sizes
-pub sizes_kept : (s : State) (e : Event) → Sized s → Sized (interrupted e s)
-unfolding interrupted
-sizes_kept s Timer z =
-    record { register_count = z.register_count; register_fits = z.register_fits; place_fits = omega arith; saved_fits = z.place_fits; rom_size = z.rom_size; ram_size = z.ram_size }
-sizes_kept s (Switch d) z =
-    record { register_count = z.register_count; register_fits = z.register_fits; place_fits = omega arith; saved_fits = z.place_fits; rom_size = z.rom_size; ram_size = z.ram_size }
-
--- the answers of a step
-pub stopped_answer : (i : List ℕ) → stopped_in i ≡ true → (None ≡ step_answer rv32i i) × (i ≡ next_image rv32i i)
-stopped_answer i h =
-    (sym (cond-true (stopped_in i) None (Some (moves i)) h), sym (cond-true (stopped_in i) i (next i) h))
-
-pub running_answer : (i j : List ℕ) (b : Bool) → stopped_in i ≡ false → b ≡ moves i → j ≡ next i
-    → (Some b ≡ step_answer rv32i i) × (j ≡ next_image rv32i i)
-running_answer i j b h a n = (
-  ap Some a ∙ sym (cond-false (stopped_in i) None (Some (moves i)) h),
-  n ∙ sym (cond-false (stopped_in i) i (next i) h),
-)
+  pub taken_whole : (e : Event) → lawful (image_of s) ≡ true → core_of (image_of (interrupted e s)) ≡ interrupted e s
+  taken_whole e h = core_told (interrupted e s) (sizes_kept s e (sizes_seen h))

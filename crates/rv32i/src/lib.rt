@@ -68,6 +68,7 @@ impl Machine for Rv32i {
         }
     }
 
+    #[tactic(auto, using(crate::specs::Laws::image_back))]
     fn load(&mut self, bytes: &[u8]) -> Result<(), GuestFault> {
         self.state = image::read(bytes)?;
         Ok(())
@@ -102,6 +103,7 @@ impl Machine for Rv32i {
         self.state.bus.lamp
     }
 
+    #[tactic(auto, using(crate::specs::ImagesLemmas::core_told, crate::proofs::Seen::next_seen, crate::proofs::Seen::moves_seen, crate::proofs::Seen::next_sound))]
     fn step(&mut self) -> Option<bool> {
         if self.stopped() {
             return None;
@@ -109,6 +111,7 @@ impl Machine for Rv32i {
         Some(units::carry_out(&mut self.state))
     }
 
+    #[tactic(auto, using(crate::proofs::Seen::taken_seen, crate::proofs::Seen::taken_sound, crate::proofs::Seen::taken_whole))]
     fn take(&mut self, event: Event) -> Option<bool> {
         if !self.ready(event) {
             return None;

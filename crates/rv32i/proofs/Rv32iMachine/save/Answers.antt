@@ -1,4 +1,4 @@
-use Rattle.std.proofs.Common.{◌≡◌, ◌≤◌, true, leb, ◌++◌, length, drop, Ok, Err, sym, ap, ◌∙◌, rules, arith}
+use Rattle.std.proofs.Common.{◌≡◌, ◌≤◌, true, leb, ◌++◌, length, drop, Ok, Err, sym, ap, ◌∙◌, rules}
 use Rattle.std.proofs.lemmas.Bool.{le-leb, cond-true}
 use Rattle.machine.specs.declared.GuestFault.TheVariants.{ShortBuffer}
 use Rattle.machine.specs.Bytes.{over}

@@ -57,8 +57,7 @@ returns c =
     let place = c.in_ok-read_place.ensures.0 ∙ s.place in
     let saved = c.in_ok-read_place-2.ensures.0 ∙ s.saved in
     let enabled = c.in_ok-read_flag.ensures.0 ∙ ap (λ v. eqb v 1) s.enabled in
-    let stopped = c.in_ok-read_flag-2.ensures.0 ∙ ap (λ v. eqb v 1) s.stopped in
-    (
+    let stopped = c.in_ok-read_flag-2.ensures.0 ∙ ap (λ v. eqb v 1) s.stopped in (
       accepted b s.long p q e (λ k. (c.type_inv.bytes k).fits) t,
       λ j. record {
         registers = record { x = x j };

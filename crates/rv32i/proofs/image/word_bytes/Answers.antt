@@ -1,4 +1,4 @@
-use Rattle.std.proofs.Common.{◌≡◌, ◌+◌, ◌-◌, ◌*◌, length, replicate, ap, ◌∙◌, arith, rules}
+use Rattle.std.proofs.Common.{◌≡◌, ◌+◌, ◌-◌, ◌*◌, length, replicate, ap, arith, rules}
 use Rattle.std.proofs.lemmas.List.{drop-drop}
 use Rattle.rv32i.specs.Buffers.{word_put}
 use Rattle.rv32i.proofs.image.word_bytes.Goals as goal

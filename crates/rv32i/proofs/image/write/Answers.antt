@@ -1,6 +1,6 @@
 use Rattle.std.proofs.Common.{◌≡◌, [], ◌∷◌, ◌++◌, ◌∙◌}
 use Rattle.rv32i_core.specs.Words.{truth}
-use Rattle.rv32i.specs.Images.{image_of, words, high_first}
+use Rattle.rv32i.specs.Images.{image_of}
 use Rattle.rv32i.specs.Buffers.{byte_truth}
 use Rattle.rv32i.proofs.image.write.Goals as goal
 
