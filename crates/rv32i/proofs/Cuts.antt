@@ -1,10 +1,15 @@
 -- What is cut out of a list of bytes, as it stands in the whole.
-use Rattle.std.proofs.Common.{◌≡◌, ℕ, zero, suc, ◌+◌, ◌*◌, ◌<◌, List, [], map, take, drop, get_or, refl, ap, ◌∙◌, arith}
+use Rattle.std.proofs.Common.{◌≡◌, ℕ, Bool, true, false, zero, suc, ◌+◌, ◌*◌, ◌<◌, List, [], ◌∷◌, ◌++◌, length, map, take, drop, get_or, refl, ap, ◌∙◌, arith}
 use Rattle.std.specs.Simd.{first_chunks}
+use Rattle.std.specs.Array.{IsMapOf}
+use Rattle.std.specs.Fn.{Called}
+use denote.Param.Members.{Mut}
+use mir.Val.{bool_byte}
+use Rattle.rv32i_core.specs.Words.{truth}
 use Rattle.std.proofs.lemmas.List.{get_or-take, get_or-drop, drop-drop}
-use Rattle.std.specs.List.{range_with_len}
+use Rattle.std.specs.List.{range_with_len, flat_map}
 use Rattle.std.proofs.lemmas.List.FromFn.{get_or-map-range_with_len}
-use Rattle.rv32i.specs.Images.{word_in, words_in}
+use Rattle.rv32i.specs.Images.{high_first, words, word_in, words_in}
 use Rattle.rv32i.specs.ImagesLemmas.{words_all}
 
 pub byte_cut : (i : List ℕ) (n k j m : ℕ) → j < n → k + j ≡ m → get_or (take n (drop k i)) j 0 ≡ get_or i m 0
@@ -41,3 +46,24 @@ words_front i =
 -- the word of a chunk
 pub chunk_word : (i : List ℕ) (n k : ℕ) → k < n → word_in (get_or (first_chunks 4 n i) k []) 0 ≡ word_in i (4 * k)
 chunk_word i n k h = ap (λ c. word_in c 0) (chunk_at i n k h) ∙ word_cut i (4 * k)
+
+-- words as bytes, one after the other
+pub joined : (xs : List ℕ) (ys : List (List ℕ)) → length ys ≡ length xs → ((i : ℕ) → i < length xs → get_or ys i [] ≡ high_first (get_or xs i 0))
+    → flat_map (λ y. y) ys ≡ words xs
+joined [] [] l f = refl
+joined [] (y ∷ ys) l f = absurd (omega arith)
+joined (x ∷ xs) [] l f = absurd (omega arith)
+joined (x ∷ xs) (y ∷ ys) l f =
+    let h = f 0 (omega arith) in
+    let t = joined xs ys (omega arith) (λ i k. f (suc i) (omega arith)) in
+    λ j. h j ++ t j
+
+-- what each call of a closure keeps to, each element does that it made
+pub mapped : {F A B : Type 0} (g : Mut F (A × Unit {0}) B) (P : A → B → Type 0) → ((f : F) (x : A) (y : B) (f' : F) → Called g f (x, tt) y f' → P x y)
+    → (f : F) (xs : List A) (ys : List B) (n i : ℕ) (d : A) (e : B) → IsMapOf g f xs ys n → i < n → P (get_or xs i d) (get_or ys i e)
+mapped g P h f xs ys n i d e m l = let r = m.at i d e l in h r.0 _ _ r.1 r.2
+
+-- a flag as a byte
+pub byte_truth : (b : Bool) → bool_byte b ≡ truth b
+byte_truth true = refl
+byte_truth false = refl

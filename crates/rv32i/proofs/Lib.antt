@@ -1,3 +1,3 @@
-mod Seen
-mod Cuts
-mod Verdicts
+pub mod Seen
+pub mod Cuts
+pub mod Verdicts

@@ -13,7 +13,15 @@ use Rattle.std.proofs.lemmas.List.FromFn.{fill_by_all, map-range_with_len_more}
 use Rattle.rv32i_core.specs.declared.state.State.{State}
 use Rattle.rv32i_core.specs.Words.{truth}
 use Rattle.rv32i.specs.Images.{high_first, words, image_of, word_in, words_in, place_in, saved_in, core_of, Sized}
-use Rattle.rv32i.specs.Buffers.{length_words, words_push}
+
+-- words one after the other
+pub length_words : (ws : List ℕ) → length (words ws) ≡ 4 * length ws
+length_words [] = refl
+length_words (w ∷ ws) = let h = length_words ws in omega arith
+
+pub words_push : (ws : List ℕ) (w : ℕ) → words (ws ++ w ∷ []) ≡ words ws ++ high_first w
+words_push [] w = refl
+words_push (v ∷ ws) w = ap (λ l. high_first v ++ l) (words_push ws w)
 
 -- a word from its four bytes
 by_parts : (q₃ q₂ q₁ r₃ r₂ r₁ r₀ w : ℕ) → q₂ * 256 + r₁ ≡ q₁ → q₃ * 256 + r₂ ≡ q₂ → q₁ * 256 + r₀ ≡ w → r₃ ≡ q₃

@@ -4,6 +4,5 @@ pub mod Guest
 pub mod Laws
 pub mod Bytes
 pub mod ImagesLemmas
-pub mod Buffers
 pub mod Soundness
 pub mod Parts

@@ -1,6 +1,7 @@
 // From a core to its image and back.
 
 ghost use Rattle.std.specs.Prelude.{◌≡◌, ℕ, ◌^◌, ◌<◌, ◌==◌, true, false, length, slice_index, MatchOption, MatchResult};
+ghost use Rattle.std.specs.List.{flat_map};
 ghost use Rattle.machine.specs.Faults.{load_fault};
 ghost use Rattle.machine.specs.declared.GuestFault.TheVariants.{Unlawful};
 ghost use Rattle.rv32i.specs.Images.{words, word_in, words_in, image_of, core_of, aligned, flag, lawful};
@@ -23,14 +24,11 @@ const ENABLED_AT: u16 = 132;
 
 const STOPPED_AT: u16 = 133;
 
-fn word_bytes(x: &[u32; 31]) -> [u8; 124]
-    ensures { result ≡ words x.now }
+// Each word as its bytes, the high one first.
+fn word_bytes(x: &[u32; 31]) -> [[u8; 4]; 31]
+    ensures { flat_map (λ bytes. bytes) result ≡ words x.now }
 {
-    let mut bytes = [0; 124];
-    for (i, word) in x.iter().enumerate() {
-        bytes[4 * i..4 * i + 4].copy_from_slice(&word.to_be_bytes());
-    }
-    bytes
+    x.map(u32::to_be_bytes)
 }
 
 // Writes the image of a core.
@@ -42,7 +40,7 @@ pub(crate) fn write(state: &State, image: &mut [u8; LENGTH])
     let (saved, rest) = rest.split_at_mut(4);
     let (bytes, rest) = rest.split_at_mut(4);
     let (rom, ram) = rest.split_at_mut(2048);
-    registers.copy_from_slice(&word_bytes(&state.registers.x));
+    registers.copy_from_slice(word_bytes(&state.registers.x).as_flattened());
     place.copy_from_slice(&state.place.to_be_bytes());
     saved.copy_from_slice(&state.saved.to_be_bytes());
     bytes.copy_from_slice(&[

@@ -1,12 +1,11 @@
-use Rattle.std.proofs.Common.{◌≡◌, ◌+◌, ◌-◌, ◌*◌, length, replicate, ap, arith, rules}
-use Rattle.std.proofs.lemmas.List.{drop-drop}
-use Rattle.rv32i.specs.Buffers.{word_put}
+use Rattle.std.proofs.Common.{◌≡◌, ℕ, List, [], length, arith, rules}
+use Rattle.rv32i.specs.Images.{high_first}
+use Rattle.rv32i.proofs.Cuts.{joined, mapped}
 use Rattle.rv32i.proofs.image.word_bytes.Goals as goal
 
-pub loop-i-preserved : goal.loop-i-preserved
-loop-i-preserved c =
-    let n = 4 * c.loop-i.i in
-    let k : (n + 4) - n ≡ 4 = omega arith in
-    let l : length c.to_be_bytes.result ≡ 4 = ap length c.to_be_bytes.ensures in
-    word_put c.args.x.now (replicate 124 0) c.loop-i.bytes _ c.to_be_bytes.result c.loop-i.i
-    (search rules) c.loop-i.invariant c.to_be_bytes.ensures (simp (k, l, c.copy_from_slice.ensures.after, drop-drop))
+pub returns : goal.returns
+returns c =
+    let P : ℕ → List ℕ → Type 0 = λ x y. y ≡ high_first x in
+    let m = c.map.ensures.items in
+    let l : length c.map.result ≡ length c.args.x.now = omega (arith, m.long) in
+    joined c.args.x.now c.map.result l (λ i h. mapped _ P (λ f x y f' k. search rules) _ c.args.x.now c.map.result 31 i 0 [] m (omega arith))

@@ -1,14 +1,14 @@
 use Rattle.std.proofs.Common.{◌≡◌, [], ◌∷◌, ◌++◌, ◌∙◌}
 use Rattle.rv32i_core.specs.Words.{truth}
 use Rattle.rv32i.specs.Images.{image_of}
-use Rattle.rv32i.specs.Buffers.{byte_truth}
+use Rattle.rv32i.proofs.Cuts.{byte_truth}
 use Rattle.rv32i.proofs.image.write.Goals as goal
 
 pub returns : goal.returns
 unfolding image_of
 returns c =
     let s = c.args.state.now in
-    let x = c.copy_from_slice.ensures.after ∙ c.word_bytes.ensures in
+    let x = c.copy_from_slice.ensures.after ∙ c.as_flattened.ensures.value ∙ c.word_bytes.ensures in
     let p = c.copy_from_slice-2.ensures.after ∙ c.to_be_bytes.ensures in
     let q = c.copy_from_slice-3.ensures.after ∙ c.to_be_bytes-2.ensures in
     let f = c.copy_from_slice-4.ensures.after in
