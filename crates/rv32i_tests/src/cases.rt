@@ -33,9 +33,7 @@ impl Case {
     // The blank image, all bytes 0 but enabled.
     pub(crate) fn new() -> Case {
         let mut bytes = [FILL; SPACE];
-        for i in 0..BLANK_LENGTH {
-            bytes[i] = 0;
-        }
+        bytes[..BLANK_LENGTH].fill(0);
         bytes[ENABLED_AT] = 1;
         Case {
             bytes,
@@ -50,10 +48,7 @@ impl Case {
             return self.put_bytes(usize::from_str_radix(at, 16).ok()?, digits.as_bytes());
         }
         let (name, number) = part.split_once('=')?;
-        let size = number.parse::<usize>().ok()?;
-        if size > SPACE {
-            return None;
-        }
+        let size = number.parse::<usize>().ok().filter(|size| *size <= SPACE)?;
         match name {
             "len" => self.length = size,
             "room" => self.room = size,
@@ -63,22 +58,18 @@ impl Case {
     }
 
     fn put_bytes(&mut self, at: usize, digits: &[u8]) -> Option<()> {
-        let mut next = at;
-        for pair in digits.chunks(2) {
-            let [high, low] = pair else {
-                return None;
-            };
-            if next >= SPACE {
-                return None;
-            }
-            self.bytes[next] = digit(*high)? * 16 + digit(*low)?;
-            next += 1;
+        let (pairs, []) = digits.as_chunks::<2>() else {
+            return None;
+        };
+        for (i, [high, low]) in pairs.iter().enumerate() {
+            let byte = self.bytes.get_mut(at.checked_add(i)?)?;
+            *byte = digit(*high)? * 16 + digit(*low)?;
         }
         Some(())
     }
 }
 
-// The value of a hexadecimal digit.
+// The value of a hexadecimal digit. The table has small letters; `char::to_digit` would take capitals too.
 fn digit(byte: u8) -> Option<u8>
     ensures { result ≡ digit_of byte }
 {

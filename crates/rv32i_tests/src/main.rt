@@ -10,9 +10,9 @@ mod cases;
 ghost use Rattle.std.specs.Prelude.{◌≡◌};
 ghost use Rattle.rv32i_tests.specs.Cases.{unit_of, letter_of};
 
-use anyhow::anyhow;
+use anyhow::Context;
 use cases::{Action, Case, FILL, SPACE};
-use machine::{Event, GuestFault, Machine};
+use machine::{Event, Machine};
 use std::fmt::Write;
 use std::io::Read;
 
@@ -36,28 +36,18 @@ fn perform<M: Machine>(guest: &mut M, action: Action) -> char
     }
 }
 
-fn describe(fault: GuestFault, line: &mut String) -> anyhow::Result<()> {
-    match fault {
-        GuestFault::WrongLength => write!(line, " wrong length")?,
-        GuestFault::Unlawful(at) => write!(line, " unlawful at {at}")?,
-        GuestFault::ShortBuffer(needed) => write!(line, " short, needs {needed}")?,
-    }
-    Ok(())
-}
-
 // The runs of bytes in which the two differ.
 fn differences(before: &[u8; SPACE], after: &[u8; SPACE], line: &mut String) -> anyhow::Result<()> {
     let mut same = true;
-    for i in 0..SPACE {
-        let byte = after[i];
-        if byte == before[i] {
+    for (i, (old, new)) in before.iter().zip(after).enumerate() {
+        if old == new {
             same = true;
             continue;
         }
         if same {
             write!(line, " {i:x}:")?;
         }
-        write!(line, "{byte:02x}")?;
+        write!(line, "{new:02x}")?;
         same = false;
     }
     Ok(())
@@ -82,7 +72,7 @@ fn look<M: Machine>(guest: &M, case: &Case, line: &mut String) -> anyhow::Result
     match guest.save(&mut after[0..case.room]) {
         Ok(_) => differences(&case.bytes, &after, line),
         Err(fault) => {
-            describe(fault, line)?;
+            write!(line, " {fault}")?;
             differences(&[FILL; SPACE], &after, line)
         }
     }
@@ -95,13 +85,12 @@ fn run<M: Machine>(
     line: &mut String,
 ) -> anyhow::Result<()> {
     if let Err(fault) = guest.load(&case.bytes[0..case.length]) {
-        return describe(fault, line);
+        write!(line, " {fault}")?;
+        return Ok(());
     }
     line.push(' ')?;
     for text in actions.split(',') {
-        let Some(action) = cases::parse_action(text) else {
-            return Err(anyhow!("no such action"));
-        };
+        let action = cases::parse_action(text).context("no such action")?;
         line.push(perform(guest, action))?;
     }
     look(guest, case, line)
@@ -110,15 +99,12 @@ fn run<M: Machine>(
 // The answer to one line of the table.
 fn answer<M: Machine>(guest: &mut M, text: &str, line: &mut String) -> anyhow::Result<()> {
     let mut parts = text.split(' ');
-    let (Some(name), Some(actions)) = (parts.next(), parts.next()) else {
-        return Err(anyhow!("no actions"));
-    };
+    let name = parts.next().context("no actions")?;
+    let actions = parts.next().context("no actions")?;
     line.push_str(name)?;
     let mut case = Case::new();
     for part in parts {
-        if case.put(part).is_none() {
-            return Err(anyhow!("no such part"));
-        }
+        case.put(part).context("no such part")?;
     }
     run(guest, &case, actions, line)
 }
