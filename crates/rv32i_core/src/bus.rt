@@ -3,7 +3,7 @@
 ghost use Rattle.std.specs.Prelude.{◌≡◌};
 ghost use Rattle.rv32i_core.specs.Memory.{byte_at, half_at, word_at, with_byte, with_half, with_word, loaded, stored};
 
-use super::words::{extend_byte, extend_half};
+use super::words::extend;
 use rv32i_decode::instructions::{LoadKind, StoreKind};
 
 #[derive(Drop)]
@@ -28,7 +28,8 @@ impl Bus {
         }
     }
 
-    // Two bytes, the low one first; addresses wrap.
+    // Two bytes, the low one first; addresses wrap. Two bytes and four are written out, here and in the writes below: an array of N bytes filled by a
+    // closure, or a loop that adds its count to the address, is no shorter.
     fn half(&self, address: u32) -> u16
         ensures { result ≡ half_at self.now address }
     {
@@ -82,8 +83,8 @@ impl Bus {
         ensures { result ≡ loaded self.now kind address }
     {
         match kind {
-            LoadKind::Lb => extend_byte(self.byte(address)),
-            LoadKind::Lh => extend_half(self.half(address)),
+            LoadKind::Lb => extend(self.byte(address).cast_signed()),
+            LoadKind::Lh => extend(self.half(address).cast_signed()),
             LoadKind::Lw => self.word(address),
             LoadKind::Lbu => u32::from(self.byte(address)),
             LoadKind::Lhu => u32::from(self.half(address)),

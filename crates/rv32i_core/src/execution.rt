@@ -140,6 +140,7 @@ impl State {
     }
 
     // Carries out the instruction at the place, and tells whether it was a transfer.
+    #[tactic(auto, unfolding(crate::specs::Execution::stepped))]
     pub fn step(&mut self) -> bool
         ensures answer { result ≡ transfers self.old }
         ensures next { self.new ≡ stepped self.old }

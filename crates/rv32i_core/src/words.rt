@@ -1,8 +1,7 @@
 // Arithmetic on words of 32 bits.
 
-ghost use Rattle.std.specs.Prelude.{◌≡◌, ◌*◌, ◌/◌};
-ghost use Rattle.rv32i_decode.specs.Formats.{sign_extended};
-ghost use Rattle.rv32i_core.specs.Words.{computed, met};
+ghost use Rattle.std.specs.Prelude.{◌≡◌, ◌*◌, ◌/◌, ℤ};
+ghost use Rattle.rv32i_core.specs.Words.{computed, met, word_of};
 
 use rv32i_decode::instructions::{Condition, Operation};
 
@@ -38,19 +37,16 @@ pub(crate) fn is_met(condition: Condition, a: u32, b: u32) -> bool
     }
 }
 
-pub(crate) fn extend_byte(byte: u8) -> u32
-    ensures { result ≡ sign_extended 8 byte }
+// A signed number of at most 32 bits as a word: its sign is carried on.
+pub(crate) fn extend<T: Into<i32>>(number: T) -> u32
+    ensures { (z : ℤ) × T.converts number z × (result ≡ word_of z) }
 {
-    i32::from(byte.cast_signed()).cast_unsigned()
-}
-
-pub(crate) fn extend_half(half: u16) -> u32
-    ensures { result ≡ sign_extended 16 half }
-{
-    i32::from(half.cast_signed()).cast_unsigned()
+    let wide: i32 = number.into();
+    wide.cast_unsigned()
 }
 
 // The number with bit 0 cleared.
+#[tactic(auto, using(crate::proofs::Numbers::evened))]
 pub(crate) fn even(target: u32) -> u32
     ensures { result ≡ target / 2 * 2 }
 {
