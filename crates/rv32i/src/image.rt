@@ -38,12 +38,12 @@ pub(crate) fn write(state: &State, image: &mut [u8; LENGTH])
     let (registers, rest) = image.split_at_mut(124);
     let (place, rest) = rest.split_at_mut(4);
     let (saved, rest) = rest.split_at_mut(4);
-    let (bytes, rest) = rest.split_at_mut(4);
+    let (flags, rest) = rest.split_at_mut(4);
     let (rom, ram) = rest.split_at_mut(2048);
     registers.copy_from_slice(word_bytes(&state.registers.x).as_flattened());
     place.copy_from_slice(&state.place.to_be_bytes());
     saved.copy_from_slice(&state.saved.to_be_bytes());
-    bytes.copy_from_slice(&[
+    flags.copy_from_slice(&[
         u8::from(state.enabled),
         u8::from(state.stopped),
         state.bus.lamp,

@@ -42,7 +42,7 @@ impl Case {
         }
     }
 
-    // Takes a part of the line: bytes of the image at an offset, or a length.
+    // Takes a part of the line: bytes of the image at an offset, or a length. None is for a part that is neither; the caller puts that in words.
     pub(crate) fn put(&mut self, part: &str) -> Option<()> {
         if let Some((at, digits)) = part.split_once(':') {
             return self.put_bytes(usize::from_str_radix(at, 16).ok()?, digits.as_bytes());
