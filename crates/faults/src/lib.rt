@@ -4,8 +4,6 @@
 ghost use Rattle.std.specs.Prelude.{◌≡◌, Some};
 ghost use Rattle.faults.specs.Refusals.{told, refusal_of_guest, file_refusal, session_refusal};
 ghost use Rattle.faults.specs.declared.FileFault.TheVariants.{InImage};
-ghost use Rattle.faults.specs.declared.Layer.TheVariants.{File, Session};
-ghost use Rattle.faults.specs.declared.Place.TheVariants.{At, Entry};
 ghost use Rattle.faults.specs.declared.SessionFault.TheVariants.{InFile, OfGuest};
 
 use landmark::Code;
@@ -36,7 +34,8 @@ pub enum Place {
     Mark(Code),
 }
 
-// A refusal as it is reported: its number, its place and its layer.
+// A refusal as it is reported: its number, its place and its layer. The number is one that the product prints, and no code for a case: the cases
+// are the faults below.
 #[derive(Clone, Copy)]
 pub struct Refusal {
     pub number: u8,
@@ -125,54 +124,26 @@ fn image_refusal(fault: GuestFault) -> Refusal
     }
 }
 
-// A fault that the reader of a recording itself found.
-fn in_file(number: u8, at: usize) -> Refusal
-    ensures { result ≡ record { number = number; place = At at; layer = File } }
-{
-    Refusal {
-        number,
-        place: Place::At(at),
-        layer: Layer::File,
-    }
-}
-
-// A fault in an entry of a recording: of its bytes, or of its landmark alone.
-fn in_entry(entry: EntryAt, layer: Layer) -> Refusal
-    ensures { result ≡ record { number = 8; place = Entry entry; layer = layer } }
-{
-    Refusal {
-        number: 8,
-        place: Place::Entry(entry),
-        layer,
-    }
-}
-
 impl From<FileFault> for Refusal {
     ghost from_gives = { λ f r. r ≡ file_refusal f };
 
     fn from(fault: FileFault) -> Refusal {
-        match fault {
-            FileFault::Truncated(length) => in_file(1, length),
-            FileFault::Version => in_file(2, 0),
-            FileFault::StatedLength => in_file(3, 1),
-            FileFault::GuestByte => in_file(4, 5),
-            FileFault::LandmarkByte => in_file(4, 6),
-            FileFault::InImage(found) => image_refusal(found),
-            FileFault::Extent(offset) => in_file(6, offset),
-            FileFault::EventBytes(entry) => in_entry(entry, Layer::File),
-            FileFault::UnknownCode(entry) => in_entry(entry, Layer::Landmark),
+        let (number, place, layer) = match fault {
+            FileFault::Truncated(length) => (1, Place::At(length), Layer::File),
+            FileFault::Version => (2, Place::At(0), Layer::File),
+            FileFault::StatedLength => (3, Place::At(1), Layer::File),
+            FileFault::GuestByte => (4, Place::At(5), Layer::File),
+            FileFault::LandmarkByte => (4, Place::At(6), Layer::File),
+            FileFault::InImage(found) => return image_refusal(found),
+            FileFault::Extent(offset) => (6, Place::At(offset), Layer::File),
+            FileFault::EventBytes(entry) => (8, Place::Entry(entry), Layer::File),
+            FileFault::UnknownCode(entry) => (8, Place::Entry(entry), Layer::Landmark),
+        };
+        Refusal {
+            number,
+            place,
+            layer,
         }
-    }
-}
-
-// A fault that the session itself found.
-fn in_session(number: u8, place: Place) -> Refusal
-    ensures { result ≡ record { number = number; place = place; layer = Session } }
-{
-    Refusal {
-        number,
-        place,
-        layer: Layer::Session,
     }
 }
 
@@ -180,18 +151,23 @@ impl From<SessionFault> for Refusal {
     ghost from_gives = { λ f r. r ≡ session_refusal f };
 
     fn from(fault: SessionFault) -> Refusal {
-        match fault {
-            SessionFault::InFile(found) => found.into(),
-            SessionFault::OfGuest(found) => found.into(),
-            SessionFault::Unreached(entry) => in_session(9, Place::Entry(entry)),
-            SessionFault::Stopped(unit) => in_session(10, Place::At(unit as usize)),
-            SessionFault::RunFull(unit) => in_session(11, Place::At(unit as usize)),
-            SessionFault::JournalFull => in_session(12, Place::At(256)),
-            SessionFault::NotReady(unit) => in_session(13, Place::At(unit as usize)),
-            SessionFault::KeptFull => in_session(14, Place::At(8)),
-            SessionFault::NoSuchMoment(code) => in_session(15, Place::Mark(code)),
-            SessionFault::OutsideRun(unit) => in_session(16, Place::At(unit as usize)),
-            SessionFault::ShortMemory(needed) => in_session(17, Place::At(needed)),
+        let (number, place) = match fault {
+            SessionFault::InFile(found) => return found.into(),
+            SessionFault::OfGuest(found) => return found.into(),
+            SessionFault::Unreached(entry) => (9, Place::Entry(entry)),
+            SessionFault::Stopped(unit) => (10, Place::At(unit as usize)),
+            SessionFault::RunFull(unit) => (11, Place::At(unit as usize)),
+            SessionFault::JournalFull => (12, Place::At(256)),
+            SessionFault::NotReady(unit) => (13, Place::At(unit as usize)),
+            SessionFault::KeptFull => (14, Place::At(8)),
+            SessionFault::NoSuchMoment(code) => (15, Place::Mark(code)),
+            SessionFault::OutsideRun(unit) => (16, Place::At(unit as usize)),
+            SessionFault::ShortMemory(needed) => (17, Place::At(needed)),
+        };
+        Refusal {
+            number,
+            place,
+            layer: Layer::Session,
         }
     }
 }

@@ -51,10 +51,12 @@ pub trait Landmark: Sized + Copy + Drop {
     fn after(self, place: u32, transfer: bool) -> Self
         ensures { meaning result ≡ marking.after (meaning self) place transfer };
 
-    // whether this landmark comes before the other, is the same or comes after it
+    // whether this landmark comes before the other, is the same or comes after it. It has no body here and is no `Ord`: the order is the kind's own,
+    // and values of one code may differ.
     fn compare(self, other: Self) -> Ordering
         ensures { result ≡ marking.order (meaning self) (meaning other) };
 
+    // The code and back. As `From` and `TryFrom` above the trait, what they give would have to be tied to `meaning` by a law for each.
     fn code(self) -> Code
         ensures { result ≡ meaning self };
 

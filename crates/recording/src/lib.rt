@@ -19,7 +19,7 @@ pub fn byte_at(file: &[u8], offset: usize) -> u8
 }
 
 // The first four checks of a file, for the kinds of guest and landmark that the two bytes name: that it is long enough, its version, its stated
-// length, and its guest and landmark bytes.
+// length, and its guest and landmark bytes. The kinds come as bytes and not as an enum: a kind is a type, and its byte is a constant of its trait.
 pub fn check_start(file: &[u8], guest: u8, mark: u8) -> Result<(), FileFault>
     ensures { result ≡ answer_of (start_check guest mark file.now) }
 {
