@@ -13,7 +13,7 @@ use super::instructions::*;
 #[derive(Clone, Copy)]
 pub(crate) struct NoInstruction;
 
-// The operation that funct3 and funct7 name under OP.
+// The operation that funct3 and funct7 name under OP. OP-IMM reads them otherwise, so that a word alone tells no operation: functions, and no TryFrom.
 fn operation(funct3: u32, funct7: u32) -> Result<Operation, NoInstruction>
     ensures { result_ok result ≡ operation_of funct3 funct7 }
 {
