@@ -12,7 +12,7 @@ use std::io;
 // The names of the first ten bytes of an image; the place has two.
 static NAMES: [&str; 10] = ["A", "X", "Y", "S", "P", "PC", "", "STOP", "LAMP", "SW"];
 
-// What a case does to the machine.
+// What a case does to the machine. The cases of RV32I do the same, spelled and told otherwise; a library for two test programs would be longer.
 enum Action {
     Step,
     Take(Event),
@@ -81,7 +81,7 @@ fn setup(words: &str) -> Option<[u8; 4106]> {
     Some(image)
 }
 
-// An action of a word; a setting is none.
+// An action of a word; a setting is none. It is no `FromStr`, since of a word that is no action there is nothing to say.
 fn parse_action(word: &str) -> Option<Action> {
     match word {
         "step" => Some(Action::Step),

@@ -95,6 +95,7 @@ impl<'a> Parts<'a> {
 fn read_words(bytes: &[u8; 124]) -> [u32; 31]
     ensures { result ≡ words_in 31 bytes.now }
 {
+    // by the index of each chunk: what `array::from_fn` makes is not known by its elements
     let (chunks, _) = bytes.as_chunks();
     let mut x = [0; 31];
     for (i, chunk) in chunks.iter().enumerate() {

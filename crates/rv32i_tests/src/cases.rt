@@ -14,13 +14,15 @@ const BLANK_LENGTH: usize = 4232;
 
 const ENABLED_AT: usize = 132;
 
+// What a case does to the guest, as the cases of the 6502 do, spelled and told otherwise.
 #[derive(Clone, Copy)]
 pub enum Action {
     Step,
     Take(Event),
 }
 
-// The image is the first `length` bytes; it is saved to a buffer of `room` bytes.
+// The image is the first `length` bytes; it is saved to a buffer of `room` bytes. The array is whole, and no vector of `length` bytes, since what
+// lies behind the image is compared too.
 #[derive(Drop)]
 pub struct Case {
     pub bytes: [u8; SPACE],
@@ -80,7 +82,7 @@ fn digit(byte: u8) -> Option<u8>
     }
 }
 
-// S steps, T takes the timer, and W with two digits a switch.
+// S steps, T takes the timer, and W with two digits a switch. It is no `FromStr`: the caller alone says what is wrong.
 pub(crate) fn parse_action(text: &str) -> Option<Action> {
     match text {
         "S" => Some(Action::Step),
