@@ -37,10 +37,10 @@ module _ (K : Kind) where
         go false y q = ap (λ (z : Bool). cond z (held K w) (held K b)) q
 
     -- one row more in the search
-    pub one_more : (rows : List Checkpoint) (i : ℕ) (first : Position) (b d : Checkpoint) (t : Bool) → i < length rows → t ≡ takes_over b (get_or rows i d) → held K b ≡ nearest L aim first (map (held K) (take i rows)) → cond t (held K (get_or rows i d)) (held K b) ≡ nearest L aim first (map (held K) (take (i + 1) rows))
-    one_more rows i first b d t l q h =
-        sym (ap (λ (x : List Checkpoint). nearest L aim first (map (held K) x)) (take_more rows i d l)
-        ∙ ap (nearest L aim first) (map-append (held K) (take i rows) (get_or rows i d ∷ []))
-        ∙ nearest_last first (map (held K) (take i rows)) (held K (get_or rows i d))
-        ∙ ap (λ (x : Position). closer L aim x (held K (get_or rows i d))) (sym h)
-        ∙ closer_is b (get_or rows i d) t (sym q))
+    pub one_more : (rows : List Checkpoint) (i : ℕ) (first : Position) (b w : Checkpoint) (t : Bool) → i < length rows → w ≡ get_or rows i w → t ≡ takes_over b w → held K b ≡ nearest L aim first (map (held K) (take i rows)) → cond t (held K w) (held K b) ≡ nearest L aim first (map (held K) (take (i + 1) rows))
+    one_more rows i first b w t l e q h =
+        sym (ap (λ (x : List Checkpoint). nearest L aim first (map (held K) x)) (take_more rows i w l)
+        ∙ ap (nearest L aim first) (map-append (held K) (take i rows) (get_or rows i w ∷ []))
+        ∙ nearest_last first (map (held K) (take i rows)) (held K (get_or rows i w))
+        ∙ (λ j. closer L aim (sym h j) (held K (sym e j)))
+        ∙ closer_is b w t (sym q))

@@ -1,5 +1,5 @@
 -- The table of refusals: for each fault its number, its place and the layer that it comes from.
-use Rattle.std.specs.Prelude.{ℕ, ◌+◌, List, decimal}
+use Rattle.std.specs.Prelude.{ℕ, ◌+◌, List, ◌++◌, codes, decimal}
 use Rattle.landmark.specs.Codes.{told as code_told}
 use Rattle.machine.specs.declared.GuestFault.{GuestFault}
 use Rattle.machine.specs.declared.GuestFault.TheVariants.{WrongLength, Unlawful, ShortBuffer}
@@ -18,6 +18,10 @@ abbrev pub told : Place → List ℕ
 told (At n) = decimal n
 told (Entry e) = decimal e.offset
 told (Mark c) = code_told c
+
+-- a refusal as it is printed
+abbrev pub refusal_told : Refusal → List ℕ
+refusal_told r = codes "refused " ++ (decimal r.number ++ (codes " at " ++ told r.place))
 
 abbrev pub refusal : ℕ → Place → Layer → Refusal
 refusal number place layer = record { number = number; place = place; layer = layer }

@@ -2,16 +2,17 @@
 #![tactic(auto)]
 
 ghost use Rattle.std.specs.Prelude.{◌≡◌, Some};
-ghost use Rattle.faults.specs.Refusals.{told, refusal_of_guest, file_refusal, session_refusal};
+ghost use Rattle.faults.specs.Refusals.{told, refusal_told, refusal_of_guest, file_refusal, session_refusal};
 ghost use Rattle.faults.specs.declared.FileFault.TheVariants.{InImage};
 ghost use Rattle.faults.specs.declared.SessionFault.TheVariants.{InFile, OfGuest};
 
 use landmark::Code;
 use machine::GuestFault;
+use std::error::Error;
 use std::fmt;
 
 // The part of the recorder that found the fault.
-#[derive(Clone, Copy)]
+#[derive(Clone, Copy, Debug)]
 pub enum Layer {
     File,
     Guest,
@@ -20,14 +21,14 @@ pub enum Layer {
 }
 
 // An entry of a recording, by its index (the last landmark comes after the last event) and its offset in the file.
-#[derive(Clone, Copy)]
+#[derive(Clone, Copy, Debug)]
 pub struct EntryAt {
     pub index: u16,
     pub offset: usize,
 }
 
 // Where a fault is: a length, an offset or a unit; an entry of a recording; or the code of a landmark.
-#[derive(Clone, Copy)]
+#[derive(Clone, Copy, Debug)]
 pub enum Place {
     At(usize),
     Entry(EntryAt),
@@ -36,7 +37,7 @@ pub enum Place {
 
 // A refusal as it is reported: its number, its place and its layer. The number is one that the product prints, and no code for a case: the cases
 // are the faults below.
-#[derive(Clone, Copy)]
+#[derive(Clone, Copy, Debug)]
 pub struct Refusal {
     pub number: u8,
     pub place: Place,
@@ -90,6 +91,16 @@ impl fmt::Display for Place {
         }
     }
 }
+
+impl fmt::Display for Refusal {
+    ghost output = { λ r. Some (refusal_told r) };
+
+    fn fmt<W: fmt::Write>(&self, f: &mut fmt::Formatter<W>) -> fmt::Result {
+        write!(f, "refused {} at {}", self.number, self.place)
+    }
+}
+
+impl Error for Refusal {}
 
 // A fault of the guest, reported by the guest itself.
 impl From<GuestFault> for Refusal {

@@ -81,7 +81,8 @@ pub trait Machine: Sized + Drop {
     fn lamp(&self) -> u8
         ensures { result ≡ kind.lamp (image self.now) };
 
-    // carries out one instruction and tells whether it was a transfer; on a stopped machine no unit takes place
+    // carries out one instruction and tells whether it was a transfer; on a stopped machine no unit takes place. That this and take answer an `Option`
+    // of the transfer report, and no enum of three, is a rule of the interface.
     fn step(&mut self) -> Option<bool>
         ensures answer { result ≡ step_answer kind (image self.old) }
         ensures next { image self.new ≡ stepped kind (image self.old) }

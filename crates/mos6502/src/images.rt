@@ -9,12 +9,12 @@ use mos6502_core::cpu::Cpu;
 use mos6502_parts::flags::Flags;
 use mos6502_parts::memory::Memory;
 
-// Where P and the stopped byte stand in an image, and how long it is.
+// Where P and the stopped byte stand in an image, in the 16 bits that a fault has (a cast to an index says no less than a call), and how long it is.
 const P: u16 = 4;
 
 const STOPPED: u16 = 7;
 
-const LENGTH: usize = 4106;
+pub(crate) const LENGTH: usize = 4106;
 
 fn processor(image: &[u8; LENGTH]) -> Cpu
     ensures { result ≡ cpu_of image.now }

@@ -30,7 +30,7 @@ impl Machine for Mos6502 {
 
     ghost image = { λ m. image_of m.cpu };
 
-    const IMAGE_BYTES: usize = 4106;
+    const IMAGE_BYTES: usize = images::LENGTH;
 
     ghost IMAGE_BYTES = { 4106 };
 

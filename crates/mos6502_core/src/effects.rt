@@ -1,4 +1,4 @@
-// What instructions have in common: a register that is loaded, the stack, calls and interrupts.
+// What instructions have in common: N and Z by a result, the stack, calls and interrupts.
 ghost use Rattle.std.specs.Prelude.{◌≡◌};
 ghost use Rattle.mos6502_parts.specs.Flags.{judged};
 ghost use Rattle.mos6502_core.specs.Registers.{with_p};

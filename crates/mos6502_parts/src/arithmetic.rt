@@ -1,4 +1,4 @@
-// Arithmetic on bytes, with the flags that it leaves.
+// Arithmetic on bytes, with the flags that it leaves. Each operation is a function of the flags and its operands, as in the manual.
 ghost use Rattle.std.specs.Prelude.{◌≡◌};
 ghost use Rattle.mos6502_parts.specs.Arithmetic.{sum, difference, compared, changed, tested};
 

@@ -32,7 +32,7 @@ impl Flags {
     }
 }
 
-// Bits are told by their weights, in the arithmetic that the definitions have: masks and shifts say no more, and each needs a lemma.
+// Bits are told by their weights, as in the definitions: with masks, which were tried, the proof did not close.
 impl From<Flags> for u8 {
     ghost from_gives = { λ p byte. byte ≡ flag_byte p };
 

@@ -1,4 +1,5 @@
-// The memory that the processor sees: RAM at the bottom, ROM at the top, and the two bytes of the dashboard between them.
+// The memory that the processor sees: RAM at the bottom, ROM at the top, and the two bytes of the dashboard between them. RV32I sees the same parts
+// at other, wider addresses: a type for both would still have a map, a read and a write for each.
 ghost use Rattle.std.specs.Prelude.{◌≡◌};
 ghost use Rattle.mos6502_parts.specs.Memory.{byte_at, word_at, stored};
 

@@ -126,7 +126,7 @@ impl Instruction {
     pub fn size(self) -> u16
         ensures { result ≡ instruction_bytes self }
     {
-        // three arms: with one arm for the three, as was measured, each step takes a jump more
+        // three arms, since one for the three takes some four machine instructions more in each step, of eighty
         match self {
             Instruction::Read(_, mode) => 1 + mode.operand_bytes(),
             Instruction::Store(_, mode) => 1 + mode.operand_bytes(),

@@ -4,7 +4,7 @@
 
 ghost use Rattle.std.specs.Prelude.{◌<◌, IfSome};
 
-use anyhow::anyhow;
+use anyhow::Context;
 use machine::{Event, Machine};
 use mos6502::Mos6502;
 use std::io;
@@ -12,7 +12,8 @@ use std::io;
 // The names of the first ten bytes of an image; the place has two.
 static NAMES: [&str; 10] = ["A", "X", "Y", "S", "P", "PC", "", "STOP", "LAMP", "SW"];
 
-// What a case does to the machine. The cases of RV32I do the same, spelled and told otherwise; a library for two test programs would be longer.
+// What a case does to the machine. The cases of RV32I do the same, spelled and told otherwise: a type for both would be a library's,
+// with a contract and an edit for two lines.
 enum Action {
     Step,
     Take(Event),
@@ -49,7 +50,7 @@ fn offset(key: &str) -> Option<usize>
     }
 }
 
-// Upper case alone: the library's digits are of either case.
+// Upper case alone, where the cases of RV32I have lower case alone: the library's digits are of either.
 fn digit(byte: u8) -> Option<u8>
     ensures { IfSome result (λ d. d < 16) }
 {
@@ -81,7 +82,7 @@ fn setup(words: &str) -> Option<[u8; 4106]> {
     Some(image)
 }
 
-// An action of a word; a setting is none. It is no `FromStr`, since of a word that is no action there is nothing to say.
+// An action of a word; a setting is none. It is no `FromStr`, which would declare an error type to drop it at once.
 fn parse_action(word: &str) -> Option<Action> {
     match word {
         "step" => Some(Action::Step),
@@ -100,7 +101,7 @@ fn act(machine: &mut Mos6502, action: Action) -> Option<bool> {
     }
 }
 
-// Onward, a transfer, or no unit at all.
+// Onward, a transfer, or no unit at all. The cases of RV32I have an `n` for the first.
 fn letter(report: Option<bool>) -> char {
     match report {
         Some(false) => 'o',
@@ -144,7 +145,7 @@ fn act_all(rt: &HostRuntime, machine: &mut Mos6502, words: &str) -> io::Result<(
 }
 
 fn run(rt: &HostRuntime, words: &str) -> anyhow::Result<()> {
-    let before = setup(words).ok_or_else(|| anyhow!("no such setting"))?;
+    let before = setup(words).context("no such setting")?;
     let mut machine = Mos6502::fresh();
     machine.load(&before)?;
     act_all(rt, &mut machine, words)?;

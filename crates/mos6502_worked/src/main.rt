@@ -10,6 +10,19 @@ static PROGRAM: [u8; 10] = [0xA9, 0x01, 0x8D, 0x00, 0xD0, 0x58, 0xEA, 0x4C, 0x06
 // At F820h: puts the switch byte into the lamp.
 static HANDLER: [u8; 7] = [0xAD, 0x01, 0xD0, 0x8D, 0x00, 0xD0, 0x40];
 
+// The units: an event that is taken, or else an instruction.
+const EVENTS: [Option<Event>; 9] = [
+    None,
+    None,
+    None,
+    None,
+    None,
+    Some(Event::Switch(5)),
+    None,
+    None,
+    None,
+];
+
 fn start_image() -> [u8; 4106] {
     let mut image = [0; 4106];
     image[3] = 0xFF;
@@ -51,11 +64,10 @@ fn main(rt: HostRuntime) -> anyhow::Result<()> {
     let mut machine = Mos6502::fresh();
     machine.load(&start_image())?;
     show(&rt, &machine, "start")?;
-    for unit in 1..10 {
-        let report = if unit == 6 {
-            machine.take(Event::Switch(5))
-        } else {
-            machine.step()
+    for event in EVENTS {
+        let report = match event {
+            Some(event) => machine.take(event),
+            None => machine.step(),
         };
         show(&rt, &machine, told(report))?;
     }

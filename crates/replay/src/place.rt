@@ -1,5 +1,7 @@
 // A machine at a moment of a run, and a checkpoint from which it can be had again.
 
+ghost use Rattle.std.specs.Prelude.{◌≡◌, length};
+
 use landmark::{Code, Landmark};
 use machine::Machine;
 
@@ -13,10 +15,11 @@ pub struct Cursor<M: Machine, L: Landmark> {
 }
 
 // What a cursor was at: the image takes as much of the room as the kind of machine needs.
-#[derive(Clone, Copy, Default)]
+#[derive(Clone, Copy)]
 pub struct Checkpoint {
     pub unit: u32,
     pub taken: usize,
     pub code: Code,
     pub image: [u8; 4608],
+    ghost whole: { length image ≡ 4608 },
 }

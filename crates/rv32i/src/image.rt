@@ -95,13 +95,9 @@ impl<'a> Parts<'a> {
 fn read_words(bytes: &[u8; 124]) -> [u32; 31]
     ensures { result ≡ words_in 31 bytes.now }
 {
-    // by the index of each chunk: what `array::from_fn` makes is not known by its elements
     let (chunks, _) = bytes.as_chunks();
-    let mut x = [0; 31];
-    for (i, chunk) in chunks.iter().enumerate() {
-        x[i] = u32::from_be_bytes(*chunk);
-    }
-    x
+    let words: &[[u8; 4]; 31] = chunks.as_array().unwrap();
+    words.map(u32::from_be_bytes)
 }
 
 // A place, which offends at an offset unless it is a multiple of 4.

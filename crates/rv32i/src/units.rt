@@ -13,8 +13,8 @@ const TIMER_HANDLER: u32 = 0x10;
 
 const SWITCH_HANDLER: u32 = 0x20;
 
-// Carries out the instruction at the place, and tells whether it was a transfer. What the types of the core's parts say of their sizes is known once
-// the parts are read.
+// Carries out the instruction at the place, and tells whether it was a transfer. The reads after it are for the proof alone: it knows what the types of
+// the core's parts say of their sizes once the parts are read. As ghost fields of the parts, each definition that builds one would have to prove them.
 pub(crate) fn carry_out(state: &mut State) -> bool
     ensures answer { result ≡ transfers state.old }
     ensures next { state.new ≡ stepped state.old }

@@ -1,4 +1,5 @@
-// What the core reads and writes by address: ROM, RAM, the lamp and the switch.
+// What the core reads and writes by address: ROM, RAM, the lamp and the switch. The 6502 has the same parts at other, narrower addresses: a type for
+// both would still have a map, a read and a write for each.
 
 ghost use Rattle.std.specs.Prelude.{◌≡◌};
 ghost use Rattle.rv32i_core.specs.Memory.{byte_at, half_at, word_at, with_byte, with_half, with_word, loaded, stored};

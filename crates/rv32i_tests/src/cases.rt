@@ -44,7 +44,7 @@ impl Case {
         }
     }
 
-    // Takes a part of the line: bytes of the image at an offset, or a length. None is for a part that is neither; the caller puts that in words.
+    // Takes a part of the line: bytes of the image at an offset, or a length. None is for a part that is neither.
     pub(crate) fn put(&mut self, part: &str) -> Option<()> {
         if let Some((at, digits)) = part.split_once(':') {
             return self.put_bytes(usize::from_str_radix(at, 16).ok()?, digits.as_bytes());
@@ -82,7 +82,7 @@ fn digit(byte: u8) -> Option<u8>
     }
 }
 
-// S steps, T takes the timer, and W with two digits a switch. It is no `FromStr`: the caller alone says what is wrong.
+// S steps, T takes the timer, and W with two digits a switch. It is no `FromStr`, which would declare an error type to drop it at once.
 pub(crate) fn parse_action(text: &str) -> Option<Action> {
     match text {
         "S" => Some(Action::Step),

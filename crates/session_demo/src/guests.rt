@@ -9,7 +9,7 @@ pub(crate) const LAMP_6502: usize = 8;
 
 pub(crate) const LAMP_RV32I: usize = 134;
 
-// The program that `mos6502_worked` shows unit by unit, written out again: the two share no crate but the guest.
+// The program that `mos6502_worked` shows unit by unit, written out again: a crate for both would promise the same bytes again in a contract.
 // At F800h: lights the lamp, lets the switch in, and goes round a loop at F806h.
 static PROGRAM: [u8; 10] = [0xA9, 0x01, 0x8D, 0x00, 0xD0, 0x58, 0xEA, 0x4C, 0x06, 0xF8];
 

@@ -10,7 +10,7 @@ use machine::Event;
 use mos6502::Mos6502;
 use rv32i::Rv32i;
 use session::{Recording, Replaying};
-use tell::{tell, tell_seek, tell_shown};
+use tell::{back, forward, interrupt, keep, run, seek, show};
 
 // Landmarks of the 6502's run: of units 5 and 4, and one that no moment has.
 #[derive(Clone, Copy)]
@@ -24,17 +24,11 @@ struct Nine {
 fn record_nine<L: Landmark>(rt: &HostRuntime) -> anyhow::Result<Replaying<Mos6502, L>> {
     println!(rt; "record")?;
     let mut session = Recording::<Mos6502, L>::record(mos6502()?);
-    let mut image = [0; 4232];
-    let shown = session.show(&mut image);
-    tell_shown(rt, shown, image[LAMP_6502])?;
-    tell(rt, "run 0", session.run(0))?;
-    tell(rt, "run 5", session.run(5))?;
-    tell(
-        rt,
-        "interrupt Switch 05",
-        session.interrupt(Event::Switch(5)),
-    )?;
-    tell(rt, "run 3", session.run(3))?;
+    show(rt, &session, &mut [0; 4232], LAMP_6502)?;
+    run(rt, &mut session, 0)?;
+    run(rt, &mut session, 5)?;
+    interrupt(rt, &mut session, Event::Switch(5))?;
+    run(rt, &mut session, 3)?;
     println!(rt; "finish")?;
     Ok(session.finish())
 }
@@ -43,12 +37,8 @@ fn record_nine<L: Landmark>(rt: &HostRuntime) -> anyhow::Result<Replaying<Mos650
 fn switch_too_early<L: Landmark>(rt: &HostRuntime) -> anyhow::Result<()> {
     println!(rt; "record")?;
     let mut session = Recording::<Mos6502, L>::record(mos6502()?);
-    tell(rt, "run 2", session.run(2))?;
-    tell(
-        rt,
-        "interrupt Switch 05",
-        session.interrupt(Event::Switch(5)),
-    )
+    run(rt, &mut session, 2)?;
+    interrupt(rt, &mut session, Event::Switch(5))
 }
 
 // To landmarks, back and forth, and out of the run.
@@ -57,55 +47,38 @@ fn look_round<L: Landmark>(
     session: &mut Replaying<Mos6502, L>,
     codes: Nine,
 ) -> anyhow::Result<()> {
-    tell_seek(rt, codes.fifth, session.seek(codes.fifth))?;
-    tell(rt, "back 1", session.back(1))?;
-    tell(rt, "forward 2", session.forward(2))?;
-    tell_seek(rt, codes.none, session.seek(codes.none))?;
-    tell_seek(rt, codes.fourth, session.seek(codes.fourth))?;
-    let mut image = [0; 4232];
-    let shown = session.show(&mut image);
-    tell_shown(rt, shown, image[LAMP_6502])?;
-    let mut short = [0; 4105];
-    let shown = session.show(&mut short);
-    tell_shown(rt, shown, 0)?;
-    tell(rt, "back 5", session.back(5))?;
-    tell(rt, "forward 6", session.forward(6))?;
-    tell(rt, "keep", session.keep())?;
-    tell(rt, "keep", session.keep())?;
-    tell(rt, "forward 5", session.forward(5))?;
-    tell(rt, "back 3", session.back(3))?;
-    Ok(())
+    seek(rt, session, codes.fifth)?;
+    back(rt, session, 1)?;
+    forward(rt, session, 2)?;
+    seek(rt, session, codes.none)?;
+    seek(rt, session, codes.fourth)?;
+    show(rt, session, &mut [0; 4232], LAMP_6502)?;
+    show(rt, session, &mut [0; 4105], LAMP_6502)?;
+    back(rt, session, 5)?;
+    forward(rt, session, 6)?;
+    keep(rt, session)?;
+    keep(rt, session)?;
+    forward(rt, session, 5)?;
+    back(rt, session, 3)
 }
 
 // From the end of what was recorded on, with a second switch.
 fn go_on<L: Landmark>(rt: &HostRuntime, session: Replaying<Mos6502, L>) -> anyhow::Result<()> {
     println!(rt; "resume")?;
     let mut session = session.resume();
-    let mut image = [0; 4232];
-    let shown = session.show(&mut image);
-    tell_shown(rt, shown, image[LAMP_6502])?;
-    tell(rt, "run 2", session.run(2))?;
-    tell(
-        rt,
-        "interrupt Switch 06",
-        session.interrupt(Event::Switch(6)),
-    )?;
-    tell(
-        rt,
-        "interrupt Switch 07",
-        session.interrupt(Event::Switch(7)),
-    )?;
-    tell(rt, "run 3", session.run(3))?;
+    show(rt, &session, &mut [0; 4232], LAMP_6502)?;
+    run(rt, &mut session, 2)?;
+    interrupt(rt, &mut session, Event::Switch(6))?;
+    interrupt(rt, &mut session, Event::Switch(7))?;
+    run(rt, &mut session, 3)?;
     println!(rt; "finish")?;
     let mut session = session.finish();
-    let shown = session.show(&mut image);
-    tell_shown(rt, shown, image[LAMP_6502])?;
+    show(rt, &session, &mut [0; 4232], LAMP_6502)?;
     for _ in 0..7 {
-        tell(rt, "back 1", session.back(1))?;
-        tell(rt, "keep", session.keep())?;
+        back(rt, &mut session, 1)?;
+        keep(rt, &mut session)?;
     }
-    tell(rt, "forward 4", session.forward(4))?;
-    Ok(())
+    forward(rt, &mut session, 4)
 }
 
 fn switch_run<L: Landmark>(rt: &HostRuntime, codes: Nine) -> anyhow::Result<()> {
@@ -119,35 +92,27 @@ fn switch_run<L: Landmark>(rt: &HostRuntime, codes: Nine) -> anyhow::Result<()> 
 fn timer_run<L: Landmark>(rt: &HostRuntime, seventh: Code, none: Code) -> anyhow::Result<()> {
     println!(rt; "record")?;
     let mut session = Recording::<Rv32i, L>::record(rv32i()?);
-    tell(rt, "run 4", session.run(4))?;
-    tell(rt, "interrupt Timer", session.interrupt(Event::Timer))?;
-    tell(rt, "interrupt Timer", session.interrupt(Event::Timer))?;
-    tell(rt, "run 3", session.run(3))?;
-    tell(rt, "keep", session.keep())?;
-    tell(rt, "run 1", session.run(1))?;
-    tell(
-        rt,
-        "interrupt Switch 07",
-        session.interrupt(Event::Switch(7)),
-    )?;
-    tell(rt, "run 5", session.run(5))?;
-    tell(rt, "run 1", session.run(1))?;
-    tell(rt, "interrupt Timer", session.interrupt(Event::Timer))?;
+    run(rt, &mut session, 4)?;
+    interrupt(rt, &mut session, Event::Timer)?;
+    interrupt(rt, &mut session, Event::Timer)?;
+    run(rt, &mut session, 3)?;
+    keep(rt, &mut session)?;
+    run(rt, &mut session, 1)?;
+    interrupt(rt, &mut session, Event::Switch(7))?;
+    run(rt, &mut session, 5)?;
+    run(rt, &mut session, 1)?;
+    interrupt(rt, &mut session, Event::Timer)?;
     println!(rt; "finish")?;
     let mut session = session.finish();
-    tell_seek(rt, seventh, session.seek(seventh))?;
-    let mut image = [0; 4232];
-    let shown = session.show(&mut image);
-    tell_shown(rt, shown, image[LAMP_RV32I])?;
-    tell(rt, "forward 4", session.forward(4))?;
-    tell(rt, "back 2", session.back(2))?;
-    let shown = session.show(&mut image);
-    tell_shown(rt, shown, image[LAMP_RV32I])?;
-    tell_seek(rt, none, session.seek(none))?;
+    seek(rt, &mut session, seventh)?;
+    show(rt, &session, &mut [0; 4232], LAMP_RV32I)?;
+    forward(rt, &mut session, 4)?;
+    back(rt, &mut session, 2)?;
+    show(rt, &session, &mut [0; 4232], LAMP_RV32I)?;
+    seek(rt, &mut session, none)?;
     println!(rt; "resume")?;
     let mut session = session.resume();
-    tell(rt, "run 1", session.run(1))?;
-    Ok(())
+    run(rt, &mut session, 1)
 }
 
 fn code(major: u32, minor: u32) -> Code {

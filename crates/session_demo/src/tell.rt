@@ -1,47 +1,90 @@
 // One line for each call, with its answer or its refusal.
 
 use faults::{Refusal, SessionFault};
-use landmark::Code;
-use session::Shown;
+use landmark::{Code, Landmark};
+use machine::{Event, Machine};
+use session::{Recording, Replaying, Session, Stage};
 use std::fmt;
 
-fn tell_refusal(rt: &HostRuntime, fault: SessionFault) -> anyhow::Result<()> {
-    let Refusal { number, place, .. } = fault.into();
-    println!(rt; "refused {number} at {place}")?;
-    Ok(())
-}
-
-// The call, then the units or the kept units that it answers.
-pub(crate) fn tell<T: fmt::Display + Drop>(
+fn tell<T: fmt::Display + Drop>(
     rt: &HostRuntime,
     call: impl fmt::Display + Drop,
     answer: Result<T, SessionFault>,
 ) -> anyhow::Result<()> {
-    print!(rt; "{call}: ")?;
     match answer {
-        Ok(told) => println!(rt; "{told}")?,
-        Err(fault) => tell_refusal(rt, fault)?,
+        Ok(told) => println!(rt; "{call}: {told}")?,
+        Err(fault) => println!(rt; "{call}: {}", Refusal::from(fault))?,
     }
     Ok(())
 }
 
-pub(crate) fn tell_seek(
+pub(crate) fn run<M: Machine, L: Landmark>(
     rt: &HostRuntime,
-    code: Code,
-    answer: Result<u32, SessionFault>,
+    session: &mut Recording<M, L>,
+    most: u32,
 ) -> anyhow::Result<()> {
-    tell(rt, format_args!("seek {code}"), answer)
+    tell(rt, format_args!("run {most}"), session.run(most))
 }
 
-pub(crate) fn tell_shown(
+pub(crate) fn interrupt<M: Machine, L: Landmark>(
     rt: &HostRuntime,
-    answer: Result<Shown, SessionFault>,
-    lamp: u8,
+    session: &mut Recording<M, L>,
+    event: Event,
 ) -> anyhow::Result<()> {
-    print!(rt; "show: ")?;
-    match answer {
-        Ok(Shown { unit, code }) => println!(rt; "unit {unit} at {code} lamp {lamp:02X}")?,
-        Err(fault) => tell_refusal(rt, fault)?,
+    let answer = session.interrupt(event);
+    match event {
+        Event::Timer => tell(rt, "interrupt Timer", answer),
+        Event::Switch(byte) => tell(rt, format_args!("interrupt Switch {byte:02X}"), answer),
+    }
+}
+
+pub(crate) fn seek<M: Machine, L: Landmark>(
+    rt: &HostRuntime,
+    session: &mut Replaying<M, L>,
+    code: Code,
+) -> anyhow::Result<()> {
+    tell(rt, format_args!("seek {code}"), session.seek(code))
+}
+
+pub(crate) fn back<M: Machine, L: Landmark>(
+    rt: &HostRuntime,
+    session: &mut Replaying<M, L>,
+    units: u32,
+) -> anyhow::Result<()> {
+    tell(rt, format_args!("back {units}"), session.back(units))
+}
+
+pub(crate) fn forward<M: Machine, L: Landmark>(
+    rt: &HostRuntime,
+    session: &mut Replaying<M, L>,
+    units: u32,
+) -> anyhow::Result<()> {
+    tell(rt, format_args!("forward {units}"), session.forward(units))
+}
+
+pub(crate) fn keep<M: Machine, L: Landmark, S: Stage>(
+    rt: &HostRuntime,
+    session: &mut Session<M, L, S>,
+) -> anyhow::Result<()> {
+    tell(rt, "keep", session.keep())
+}
+
+// The image goes to the buffer; the lamp is its byte at an offset that each guest has its own.
+pub(crate) fn show<M: Machine, L: Landmark, S: Stage>(
+    rt: &HostRuntime,
+    session: &Session<M, L, S>,
+    buffer: &mut [u8],
+    lamp_at: usize,
+) -> anyhow::Result<()> {
+    match session.show(buffer) {
+        Ok(shown) => {
+            let lamp = buffer.get(lamp_at).copied().unwrap_or(0);
+            println!(rt;
+                "show: unit {} at {} lamp {lamp:02X}",
+                shown.unit, shown.code
+            )?;
+        }
+        Err(fault) => println!(rt; "show: {}", Refusal::from(fault))?,
     }
     Ok(())
 }
