@@ -9,7 +9,7 @@ use mos6502_core::cpu::Cpu;
 use mos6502_parts::flags::Flags;
 use mos6502_parts::memory::Memory;
 
-// Where P and the stopped byte stand in an image, in the 16 bits that a fault has (a cast to an index says no less than a call), and how long it is.
+// Where P and the stopped byte stand in an image, in the 16 bits that a fault has (a cast makes an index of each: a call would be a step more in the proof), and how long it is.
 const P: u16 = 4;
 
 const STOPPED: u16 = 7;
@@ -69,16 +69,24 @@ fn head(cpu: &Cpu) -> [u8; 10]
     ]
 }
 
+// Writes the image of a processor.
+fn write(cpu: &Cpu, image: &mut [u8; LENGTH])
+    ensures written { image.new ≡ image_of cpu.now }
+    ensures whole { length (image_of cpu.now) ≡ 4106 }
+{
+    image[..10].copy_from_slice(&head(cpu));
+    image[10..2058].copy_from_slice(&cpu.memory.ram);
+    image[2058..].copy_from_slice(&cpu.memory.rom);
+}
+
 // Puts the image at the front of the buffer, unless the buffer is too short, and answers its length.
 pub fn save_image(cpu: &Cpu, buffer: &mut [u8]) -> Result<usize, GuestFault>
     ensures answer { result ≡ save_answer mos6502 buffer.old }
     ensures memory { buffer.new ≡ saved mos6502 (image_of cpu.now) buffer.old }
 {
-    if buffer.len() < LENGTH {
-        return Err(GuestFault::ShortBuffer(LENGTH));
-    }
-    buffer[0..10].copy_from_slice(&head(cpu));
-    buffer[10..2058].copy_from_slice(&cpu.memory.ram);
-    buffer[2058..4106].copy_from_slice(&cpu.memory.rom);
+    let image = buffer
+        .first_chunk_mut()
+        .ok_or(GuestFault::ShortBuffer(LENGTH))?;
+    write(cpu, image);
     Ok(LENGTH)
 }

@@ -8,6 +8,8 @@ use anyhow::Context;
 use machine::{Event, Machine};
 use mos6502::Mos6502;
 use std::io;
+use std::iter::Chain;
+use std::ops::RangeInclusive;
 
 // The names of the first ten bytes of an image; the place has two.
 static NAMES: [&str; 10] = ["A", "X", "Y", "S", "P", "PC", "", "STOP", "LAMP", "SW"];
@@ -24,13 +26,15 @@ fn pattern(at: u16) -> u8 {
     ((at % 256 * 7 + at / 256 * 13 + 3) % 256) as u8
 }
 
-fn background() -> [u8; 4106] {
-    let mut image = [0; 4106];
+// The addresses of RAM and ROM, in the order of an image.
+fn addresses() -> Chain<RangeInclusive<u16>, RangeInclusive<u16>> {
+    (0..=0x7FF).chain(0xF800..=0xFFFF)
+}
+
+fn background() -> [u8; Mos6502::IMAGE_BYTES] {
+    let mut image = [0; Mos6502::IMAGE_BYTES];
     image[4] = 0x20;
-    for (byte, at) in image[10..2058].iter_mut().zip(0..=0x7FF) {
-        *byte = pattern(at);
-    }
-    for (byte, at) in image[2058..].iter_mut().zip(0xF800..=0xFFFF) {
+    for (byte, at) in image[10..].iter_mut().zip(addresses()) {
         *byte = pattern(at);
     }
     image
@@ -62,7 +66,7 @@ fn digit(byte: u8) -> Option<u8>
 }
 
 // Puts bytes into the image, from a register or an address on, digit by digit.
-fn set(image: &mut [u8; 4106], key: &str, digits: &str) -> Option<()> {
+fn set(image: &mut [u8; Mos6502::IMAGE_BYTES], key: &str, digits: &str) -> Option<()> {
     let start = offset(key)?;
     for (k, byte) in digits.bytes().enumerate() {
         let cell = image.get_mut(start + k / 2)?;
@@ -72,7 +76,7 @@ fn set(image: &mut [u8; 4106], key: &str, digits: &str) -> Option<()> {
 }
 
 // The image that the settings of a case make.
-fn setup(words: &str) -> Option<[u8; 4106]> {
+fn setup(words: &str) -> Option<[u8; Mos6502::IMAGE_BYTES]> {
     let mut image = background();
     for word in words.split_whitespace() {
         if let Some((key, digits)) = word.split_once('=') {
@@ -111,7 +115,7 @@ fn letter(report: Option<bool>) -> char {
 }
 
 // Each register, by its name.
-fn show_registers(rt: &HostRuntime, image: &[u8; 4106]) -> io::Result<()> {
+fn show_registers(rt: &HostRuntime, image: &[u8; Mos6502::IMAGE_BYTES]) -> io::Result<()> {
     for (name, byte) in NAMES.iter().zip(image) {
         if !name.is_empty() {
             print!(rt; " {name}=")?;
@@ -122,10 +126,13 @@ fn show_registers(rt: &HostRuntime, image: &[u8; 4106]) -> io::Result<()> {
 }
 
 // Each byte of memory that changed, at its address.
-fn show_changes(rt: &HostRuntime, before: &[u8; 4106], after: &[u8; 4106]) -> io::Result<()> {
-    let addresses = (0..=0x7FF).chain(0xF800..=0xFFFFu16);
+fn show_changes(
+    rt: &HostRuntime,
+    before: &[u8; Mos6502::IMAGE_BYTES],
+    after: &[u8; Mos6502::IMAGE_BYTES],
+) -> io::Result<()> {
     let cells = before[10..].iter().zip(&after[10..]);
-    for (at, (old, new)) in addresses.zip(cells) {
+    for (at, (old, new)) in addresses().zip(cells) {
         if new != old {
             print!(rt; " {at:04X}={new:02X}")?;
         }
@@ -149,7 +156,7 @@ fn run(rt: &HostRuntime, words: &str) -> anyhow::Result<()> {
     let mut machine = Mos6502::fresh();
     machine.load(&before)?;
     act_all(rt, &mut machine, words)?;
-    let mut after = [0; 4106];
+    let mut after = [0; Mos6502::IMAGE_BYTES];
     machine.save(&mut after)?;
     show_registers(rt, &after)?;
     show_changes(rt, &before, &after)?;

@@ -4,7 +4,7 @@
 use machine::{Event, Machine};
 use mos6502::Mos6502;
 
-// Lights the lamp, lets the switch in, and goes round a loop at F806h.
+// Lights the lamp, lets the switch in, and goes round a loop at F806h. `session_demo` has the same bytes: a crate for both would promise them again.
 static PROGRAM: [u8; 10] = [0xA9, 0x01, 0x8D, 0x00, 0xD0, 0x58, 0xEA, 0x4C, 0x06, 0xF8];
 
 // At F820h: puts the switch byte into the lamp.
@@ -23,8 +23,8 @@ const EVENTS: [Option<Event>; 9] = [
     None,
 ];
 
-fn start_image() -> [u8; 4106] {
-    let mut image = [0; 4106];
+fn start_image() -> [u8; Mos6502::IMAGE_BYTES] {
+    let mut image = [0; Mos6502::IMAGE_BYTES];
     image[3] = 0xFF;
     image[4] = 0x24;
     image[5] = 0xF8;
@@ -46,7 +46,7 @@ fn told(report: Option<bool>) -> &'static str {
 }
 
 fn show(rt: &HostRuntime, machine: &Mos6502, report: &str) -> anyhow::Result<()> {
-    let mut image = [0; 4106];
+    let mut image = [0; Mos6502::IMAGE_BYTES];
     machine.save(&mut image)?;
     let place = machine.place();
     let lamp = machine.lamp();

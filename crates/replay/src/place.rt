@@ -14,12 +14,15 @@ pub struct Cursor<M: Machine, L: Landmark> {
     pub taken: usize,
 }
 
+// The length of the largest image: in generic code an array's length cannot be a trait's constant.
+pub(crate) const LARGEST_IMAGE: usize = 4608;
+
 // What a cursor was at: the image takes as much of the room as the kind of machine needs.
 #[derive(Clone, Copy)]
 pub struct Checkpoint {
     pub unit: u32,
     pub taken: usize,
     pub code: Code,
-    pub image: [u8; 4608],
+    pub image: [u8; LARGEST_IMAGE],
     ghost whole: { length image ≡ 4608 },
 }

@@ -1,6 +1,6 @@
 -- The image of a core: a list of 4,232 bytes.
 use Rattle.std.specs.Prelude.{◌≡◌, ℕ, ◌+◌, ◌*◌, ◌/◌, ◌%◌, ◌^◌, ◌<◌, Bool, true, cond, not, ◌&&◌, List, [], ◌∷◌, ◌++◌, map, length, take, drop, replicate, ◌==◌, nat_lt, slice_index}
-use Rattle.std.specs.List.{range_with_len}
+use Rattle.std.specs.List.{list_all, range_with_len}
 use Rattle.rv32i_core.specs.declared.state.State.{State}
 use Rattle.rv32i_core.specs.Words.{truth}
 
@@ -71,8 +71,7 @@ offending i =
     (cond (not (flag (slice_index i 132))) 132 133))
 
 abbrev pub bytes : List ℕ → Bool
-bytes [] = true
-bytes (b ∷ bs) = nat_lt b 256 && bytes bs
+bytes bs = list_all (λ b. nat_lt b 256) bs
 
 abbrev pub well_formed : List ℕ → Bool
 well_formed i = aligned (place_in i) && (aligned (saved_in i) && (flag (slice_index i 132) && flag (slice_index i 133)))

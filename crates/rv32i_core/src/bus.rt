@@ -96,7 +96,10 @@ impl Bus {
         ensures { self.new ≡ stored self.old kind address value }
     {
         match kind {
-            StoreKind::Sb => self.put_byte(address, (value % 0x100) as u8),
+            StoreKind::Sb => {
+                let [b0, ..] = value.to_le_bytes();
+                self.put_byte(address, b0);
+            }
             StoreKind::Sh => self.put_half(address, value),
             StoreKind::Sw => self.put_word(address, value),
         }

@@ -32,7 +32,7 @@ impl State {
         self.go_on();
     }
 
-    // Goes to a target; one that is no multiple of 4 stops the core.
+    // Goes to a target; one that is no multiple of 4 stops the core. It is a link to x0, and stands apart as a branch does in the manual.
     fn go_to(&mut self, target: u32)
         ensures { self.new ≡ gone self.old target }
     {

@@ -101,7 +101,7 @@ fn jalr(word: Word) -> Result<Instruction, NoInstruction>
     }
 }
 
-// This, `load` and `store` are one line each; a function for the three, which takes what makes the variant, would be no shorter.
+// This and what follows, as `jalr` before, are a line or a match each; a function that takes what makes the variant would be no shorter.
 fn branch(word: Word) -> Result<Instruction, NoInstruction>
     ensures { result_unwrap_or result Undefined ≡ branch_of word.0 }
 {

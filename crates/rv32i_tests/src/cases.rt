@@ -3,14 +3,15 @@
 ghost use Rattle.std.specs.Prelude.{◌≡◌, ◌≤◌};
 ghost use Rattle.rv32i_tests.specs.Cases.{digit_of};
 
-use machine::Event;
+use machine::{Event, Machine};
+use rv32i::Rv32i;
 
 // The bytes of a case, room for more behind its image, and what stands there.
 pub const SPACE: usize = 4700;
 
 pub const FILL: u8 = 0xa5;
 
-const BLANK_LENGTH: usize = 4232;
+const BLANK_LENGTH: usize = Rv32i::IMAGE_BYTES;
 
 const ENABLED_AT: usize = 132;
 

@@ -16,6 +16,7 @@ use machine::{Event, Machine};
 use std::fmt::Write;
 use std::io::Read;
 
+// The cases of the 6502 have an `o` for the second.
 fn letter(unit: Option<bool>) -> char
     ensures { result ≡ letter_of unit }
 {

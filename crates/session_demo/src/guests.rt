@@ -31,7 +31,7 @@ fn loaded<M: Machine>(image: &[u8]) -> anyhow::Result<M> {
 }
 
 pub(crate) fn mos6502() -> anyhow::Result<Mos6502> {
-    let mut image = [0; 4106];
+    let mut image = [0; Mos6502::IMAGE_BYTES];
     image[3] = 0xFF;
     image[4] = 0x24;
     image[5] = 0xF8;
@@ -44,7 +44,7 @@ pub(crate) fn mos6502() -> anyhow::Result<Mos6502> {
 }
 
 pub(crate) fn rv32i() -> anyhow::Result<Rv32i> {
-    let mut image = [0; 4232];
+    let mut image = [0; Rv32i::IMAGE_BYTES];
     // enabled
     image[132] = 1;
     image[136..164].copy_from_slice(&WORDS);

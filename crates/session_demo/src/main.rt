@@ -6,7 +6,7 @@ mod tell;
 
 use guests::{LAMP_6502, LAMP_RV32I, mos6502, rv32i};
 use landmark::{Branch, Code, Count, Landmark};
-use machine::Event;
+use machine::{Event, Machine};
 use mos6502::Mos6502;
 use rv32i::Rv32i;
 use session::{Recording, Replaying};
@@ -24,7 +24,7 @@ struct Nine {
 fn record_nine<L: Landmark>(rt: &HostRuntime) -> anyhow::Result<Replaying<Mos6502, L>> {
     println!(rt; "record")?;
     let mut session = Recording::<Mos6502, L>::record(mos6502()?);
-    show(rt, &session, &mut [0; 4232], LAMP_6502)?;
+    show(rt, &session, &mut [0; Mos6502::IMAGE_BYTES], LAMP_6502)?;
     run(rt, &mut session, 0)?;
     run(rt, &mut session, 5)?;
     interrupt(rt, &mut session, Event::Switch(5))?;
@@ -52,7 +52,7 @@ fn look_round<L: Landmark>(
     forward(rt, session, 2)?;
     seek(rt, session, codes.none)?;
     seek(rt, session, codes.fourth)?;
-    show(rt, session, &mut [0; 4232], LAMP_6502)?;
+    show(rt, session, &mut [0; Mos6502::IMAGE_BYTES], LAMP_6502)?;
     show(rt, session, &mut [0; 4105], LAMP_6502)?;
     back(rt, session, 5)?;
     forward(rt, session, 6)?;
@@ -66,14 +66,14 @@ fn look_round<L: Landmark>(
 fn go_on<L: Landmark>(rt: &HostRuntime, session: Replaying<Mos6502, L>) -> anyhow::Result<()> {
     println!(rt; "resume")?;
     let mut session = session.resume();
-    show(rt, &session, &mut [0; 4232], LAMP_6502)?;
+    show(rt, &session, &mut [0; Mos6502::IMAGE_BYTES], LAMP_6502)?;
     run(rt, &mut session, 2)?;
     interrupt(rt, &mut session, Event::Switch(6))?;
     interrupt(rt, &mut session, Event::Switch(7))?;
     run(rt, &mut session, 3)?;
     println!(rt; "finish")?;
     let mut session = session.finish();
-    show(rt, &session, &mut [0; 4232], LAMP_6502)?;
+    show(rt, &session, &mut [0; Mos6502::IMAGE_BYTES], LAMP_6502)?;
     for _ in 0..7 {
         back(rt, &mut session, 1)?;
         keep(rt, &mut session)?;
@@ -105,10 +105,10 @@ fn timer_run<L: Landmark>(rt: &HostRuntime, seventh: Code, none: Code) -> anyhow
     println!(rt; "finish")?;
     let mut session = session.finish();
     seek(rt, &mut session, seventh)?;
-    show(rt, &session, &mut [0; 4232], LAMP_RV32I)?;
+    show(rt, &session, &mut [0; Rv32i::IMAGE_BYTES], LAMP_RV32I)?;
     forward(rt, &mut session, 4)?;
     back(rt, &mut session, 2)?;
-    show(rt, &session, &mut [0; 4232], LAMP_RV32I)?;
+    show(rt, &session, &mut [0; Rv32i::IMAGE_BYTES], LAMP_RV32I)?;
     seek(rt, &mut session, none)?;
     println!(rt; "resume")?;
     let mut session = session.resume();

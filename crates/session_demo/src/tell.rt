@@ -3,7 +3,7 @@
 use faults::{Refusal, SessionFault};
 use landmark::{Code, Landmark};
 use machine::{Event, Machine};
-use session::{Recording, Replaying, Session, Stage};
+use session::{Recording, Replaying, Session, Shown, Stage};
 use std::fmt;
 
 fn tell<T: fmt::Display + Drop>(
@@ -69,6 +69,20 @@ pub(crate) fn keep<M: Machine, L: Landmark, S: Stage>(
     tell(rt, "keep", session.keep())
 }
 
+// A moment that was shown, with its lamp.
+#[derive(Clone, Copy)]
+struct Seen {
+    shown: Shown,
+    lamp: u8,
+}
+
+impl fmt::Display for Seen {
+    fn fmt<W: fmt::Write>(&self, f: &mut fmt::Formatter<W>) -> fmt::Result {
+        let Shown { unit, code } = self.shown;
+        write!(f, "unit {unit} at {code} lamp {:02X}", self.lamp)
+    }
+}
+
 // The image goes to the buffer; the lamp is its byte at an offset that each guest has its own.
 pub(crate) fn show<M: Machine, L: Landmark, S: Stage>(
     rt: &HostRuntime,
@@ -76,15 +90,7 @@ pub(crate) fn show<M: Machine, L: Landmark, S: Stage>(
     buffer: &mut [u8],
     lamp_at: usize,
 ) -> anyhow::Result<()> {
-    match session.show(buffer) {
-        Ok(shown) => {
-            let lamp = buffer.get(lamp_at).copied().unwrap_or(0);
-            println!(rt;
-                "show: unit {} at {} lamp {lamp:02X}",
-                shown.unit, shown.code
-            )?;
-        }
-        Err(fault) => println!(rt; "show: {}", Refusal::from(fault))?,
-    }
-    Ok(())
+    let answer = session.show(buffer);
+    let lamp = buffer.get(lamp_at).copied().unwrap_or(0);
+    tell(rt, "show", answer.map(|shown| Seen { shown, lamp }))
 }

@@ -1,16 +1,17 @@
-use Rattle.std.proofs.Common.{◌≡◌, length, sym, refl, ◌∙◌, rules}
-use Rattle.std.proofs.lemmas.Bool.{cond-true, le-leb}
-use Rattle.mos6502.specs.Images.{head_of, image_of}
-use Rattle.mos6502.proofs.Writes.{three_parts}
+use Rattle.std.proofs.Common.{◌≡◌, ◌≤◌, true, leb, ◌++◌, length, drop, Ok, Err, sym, ap, ◌∙◌, rules}
+use Rattle.std.proofs.lemmas.Bool.{le-leb, cond-true}
+use Rattle.machine.specs.declared.GuestFault.TheVariants.{ShortBuffer}
+use Rattle.machine.specs.Bytes.{over}
+use Rattle.mos6502.specs.Images.{image_of}
 use Rattle.mos6502.proofs.images.save_image.Goals as goal
 
-pub returns-clause-memory : goal.returns-clause-memory
-unfolding image_of
-returns-clause-memory c =
-    let memory = c.args.buffer.now in
-    let m = c.args.cpu.now in
-    let head : c.copy_from_slice.new.self ≡ head_of m = search rules in
-    let ram : length m.memory.ram ≡ 2048 = search rules in
-    let rom : length m.memory.rom ≡ 2048 = search rules in
-    rw (head, c.copy_from_slice-2.ensures.after, c.copy_from_slice-3.ensures.after) (three_parts memory (head_of m) m.memory.ram m.memory.rom refl ram rom)
-    ∙ sym (cond-true _ _ _ (le-leb 4106 (length memory) c.if-buffer-lt-LENGTH.false))
+pub returns : goal.returns
+returns c =
+    let b = c.args.buffer.now in
+    let i = image_of c.args.cpu.now in
+    let h : 4106 ≤ length b = search rules in
+    let r : leb 4106 (length b) ≡ true = le-leb 4106 (length b) h in
+    record {
+      answer = sym (cond-true (leb 4106 (length b)) (Ok 4106) (Err (ShortBuffer 4106)) r);
+      memory = ap (λ l. l ++ drop 4106 b) c.write.ensures.written ∙ ap (λ k. i ++ drop k b) (sym c.write.ensures.whole) ∙ sym (cond-true (leb 4106 (length b)) (over i b) b r);
+    }
