@@ -1,7 +1,7 @@
 // The kept units of a session, each with what a replay needs to begin there.
 #![tactic(auto)]
 
-ghost use Rattle.std.specs.Prelude.{◌≡◌, false, [], ◌∷◌, length, None, is_some, ◌==◌, if◌then◌else◌, nat_le, nat_lt};
+ghost use Rattle.std.specs.Prelude.{◌≡◌, ◌≤◌, false, [], ◌∷◌, length, None, is_some, ◌==◌, if◌then◌else◌, nat_le, nat_lt};
 ghost use Rattle.std.specs.List.{list_any};
 ghost use Rattle.machine.specs.Kinds.{Kind};
 ghost use Rattle.replay.specs.declared.place.Checkpoint.{Checkpoint};
@@ -17,6 +17,9 @@ use replay::Checkpoint;
 mod table;
 
 pub use table::{Checkpoints, Target};
+
+// The most units that are kept.
+pub const MOST_KEPT: usize = 8;
 
 // Whether the checkpoint is not past the target.
 pub fn not_past<L: Landmark>(target: Target<L>, row: &Checkpoint) -> bool
@@ -56,7 +59,8 @@ impl Checkpoints {
 
     // How many units are kept.
     pub fn len(&self) -> usize
-        ensures { (K : Kind) → result ≡ length (kept K self.now) }
+        ensures all { (K : Kind) → result ≡ length (kept K self.now) }
+        ensures few { result ≤ 8 }
     {
         self.rows.len()
     }

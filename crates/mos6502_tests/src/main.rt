@@ -8,8 +8,6 @@ use anyhow::Context;
 use machine::{Event, Machine};
 use mos6502::Mos6502;
 use std::io;
-use std::iter::Chain;
-use std::ops::RangeInclusive;
 
 // The names of the first ten bytes of an image; the place has two.
 static NAMES: [&str; 10] = ["A", "X", "Y", "S", "P", "PC", "", "STOP", "LAMP", "SW"];
@@ -21,21 +19,21 @@ enum Action {
     Take(Event),
 }
 
+// The address of the first byte of ROM. Those of RAM and of ROM, 2,048 each, differ in its bits alone.
+const ROM: u16 = 0xF800;
+
 // What memory holds where a case does not set it.
 fn pattern(at: u16) -> u8 {
     ((at % 256 * 7 + at / 256 * 13 + 3) % 256) as u8
 }
 
-// The addresses of RAM and ROM, in the order of an image.
-fn addresses() -> Chain<RangeInclusive<u16>, RangeInclusive<u16>> {
-    (0..=0x7FF).chain(0xF800..=0xFFFF)
-}
-
 fn background() -> [u8; Mos6502::IMAGE_BYTES] {
     let mut image = [0; Mos6502::IMAGE_BYTES];
     image[4] = 0x20;
-    for (byte, at) in image[10..].iter_mut().zip(addresses()) {
-        *byte = pattern(at);
+    let (ram, rom) = image[10..].split_at_mut(2048);
+    for (i, (low, high)) in (0..0x800).zip(ram.iter_mut().zip(rom)) {
+        *low = pattern(i);
+        *high = pattern(ROM | i);
     }
     image
 }
@@ -75,15 +73,14 @@ fn set(image: &mut [u8; Mos6502::IMAGE_BYTES], key: &str, digits: &str) -> Optio
     Some(())
 }
 
-// The image that the settings of a case make.
-fn setup(words: &str) -> Option<[u8; Mos6502::IMAGE_BYTES]> {
-    let mut image = background();
+// Puts the settings of a case into the image.
+fn setup(image: &mut [u8; Mos6502::IMAGE_BYTES], words: &str) -> Option<()> {
     for word in words.split_whitespace() {
         if let Some((key, digits)) = word.split_once('=') {
-            set(&mut image, key, digits)?;
+            set(image, key, digits)?;
         }
     }
-    Some(image)
+    Some(())
 }
 
 // An action of a word; a setting is none. It is no `FromStr`, which would declare an error type to drop it at once.
@@ -125,19 +122,14 @@ fn show_registers(rt: &HostRuntime, image: &[u8; Mos6502::IMAGE_BYTES]) -> io::R
     Ok(())
 }
 
-// Each byte of memory that changed, at its address.
-fn show_changes(
-    rt: &HostRuntime,
-    before: &[u8; Mos6502::IMAGE_BYTES],
-    after: &[u8; Mos6502::IMAGE_BYTES],
-) -> io::Result<()> {
-    let cells = before[10..].iter().zip(&after[10..]);
-    for (at, (old, new)) in addresses().zip(cells) {
+// Each byte that changed, at its address: those of RAM, or those of ROM.
+fn show_changes(rt: &HostRuntime, base: u16, before: &[u8], after: &[u8]) -> io::Result<()> {
+    for (i, (old, new)) in (0..0x800).zip(before.iter().zip(after)) {
         if new != old {
-            print!(rt; " {at:04X}={new:02X}")?;
+            print!(rt; " {:04X}={new:02X}", base | i)?;
         }
     }
-    println!(rt; "")
+    Ok(())
 }
 
 // Carries out the actions of a case, with a letter for each.
@@ -152,14 +144,17 @@ fn act_all(rt: &HostRuntime, machine: &mut Mos6502, words: &str) -> io::Result<(
 }
 
 fn run(rt: &HostRuntime, words: &str) -> anyhow::Result<()> {
-    let before = setup(words).context("no such setting")?;
+    let mut before = background();
+    setup(&mut before, words).context("no such setting")?;
     let mut machine = Mos6502::fresh();
-    machine.load(&before)?;
+    machine.load(&before).ok().context("not lawful")?;
     act_all(rt, &mut machine, words)?;
     let mut after = [0; Mos6502::IMAGE_BYTES];
     machine.save(&mut after)?;
     show_registers(rt, &after)?;
-    show_changes(rt, &before, &after)?;
+    show_changes(rt, 0, &before[10..2058], &after[10..2058])?;
+    show_changes(rt, ROM, &before[2058..], &after[2058..])?;
+    println!(rt; "")?;
     Ok(())
 }
 

@@ -1,7 +1,7 @@
 -- What is cut out of a list of bytes, as it stands in the whole.
-use Rattle.std.proofs.Common.{◌≡◌, ℕ, Bool, true, false, zero, suc, ◌+◌, ◌*◌, ◌<◌, List, [], ◌∷◌, ◌++◌, length, map, take, drop, get_or, refl, ap, ◌∙◌, arith}
+use Rattle.std.proofs.Common.{◌≡◌, ℕ, Bool, true, false, zero, suc, ◌+◌, ◌*◌, ◌<◌, List, [], ◌∷◌, ◌++◌, length, map, take, drop, get_or, refl, sym, ap, subst, ◌∙◌, arith}
 use Rattle.std.specs.Simd.{first_chunks}
-use Rattle.std.specs.Array.{IsMapOf}
+use Rattle.std.specs.Array.{IsFromFnResult, IsFromFnResultFrom}
 use Rattle.std.specs.Fn.{Called}
 use denote.Param.Members.{Mut}
 use mir.Val.{bool_byte}
@@ -58,10 +58,23 @@ joined (x ∷ xs) (y ∷ ys) l f =
     let t = joined xs ys (omega arith) (λ i k. f (suc i) (omega arith)) in
     λ j. h j ++ t j
 
--- what each call of a closure keeps to, each element does that it made
-pub mapped : {F A B : Type 0} (g : Mut F (A × Unit {0}) B) (P : A → B → Type 0) → ((f : F) (x : A) (y : B) (f' : F) → Called g f (x, tt) y f' → P x y)
-    → (f : F) (xs : List A) (ys : List B) (n i : ℕ) (d : A) (e : B) → IsMapOf g f xs ys n → i < n → P (get_or xs i d) (get_or ys i e)
-mapped g P h f xs ys n i d e m l = let r = m.at i d e l in h r.0 _ _ r.1 r.2
+-- A closure that no call changes was called at each index, and what a call keeps to, the element there does that it made.
+module _ {F B : Type 0} (g : Mut F (ℕ × Unit {0}) B) (P : ℕ → B → Type 0) (f : F) (h : (i : ℕ) (y : B) (f' : F) → Called g f (i, tt) y f' → P i y × (f' ≡ f)) where
+  made_from : (p : F) (ys : List B) (i n k : ℕ) (e : B) → p ≡ f → IsFromFnResultFrom g p ys i n → k < n → P (i + k) (get_or ys (i + k) e)
+  made_from p ys i zero k e s m l = absurd (omega arith)
+  made_from p ys i (suc n) zero e s m l =
+      let r = h i m.1 m.0 (subst (λ u. Called g u (i, tt) m.1 m.0) s m.3) in
+      let o : i ≡ i + 0 = omega arith in
+      subst (λ j. P j (get_or ys j e)) o (subst (P i) (sym (m.2.1 e)) r.0)
+  made_from p ys i (suc n) (suc k) e s m l =
+      let r = h i m.1 m.0 (subst (λ u. Called g u (i, tt) m.1 m.0) s m.3) in
+      let o : i + 1 + k ≡ i + suc k = omega arith in
+      subst (λ j. P j (get_or ys j e)) o (made_from m.0 ys (i + 1) n k e r.1 m.4 (omega arith))
+
+  pub made : (ys : List B) (n k : ℕ) (e : B) → IsFromFnResult g f ys n → k < n → P k (get_or ys k e)
+  made ys n k e m l =
+      let o : 0 + k ≡ k = omega arith in
+      subst (λ j. P j (get_or ys j e)) o (made_from f ys 0 n k e refl m.each l)
 
 -- a flag as a byte
 pub byte_truth : (b : Bool) → bool_byte b ≡ truth b

@@ -4,7 +4,7 @@ ghost use Rattle.std.specs.Prelude.{◌≡◌, ℕ, ◌^◌, ◌<◌, ◌==◌, 
 ghost use Rattle.std.specs.List.{flat_map};
 ghost use Rattle.machine.specs.Faults.{load_fault};
 ghost use Rattle.machine.specs.declared.GuestFault.TheVariants.{Unlawful};
-ghost use Rattle.rv32i.specs.Images.{words, word_in, words_in, image_of, core_of, aligned, flag, lawful};
+ghost use Rattle.rv32i.specs.Images.{high_first, words, word_in, words_in, image_of, core_of, aligned, flag, lawful};
 ghost use Rattle.rv32i.specs.Parts.{PartsIn};
 ghost use Rattle.rv32i.specs.Guest.{rv32i};
 
@@ -12,6 +12,7 @@ use machine::GuestFault;
 use rv32i_core::bus::Bus;
 use rv32i_core::registers::Registers;
 use rv32i_core::state::State;
+use std::array;
 
 pub(crate) const LENGTH: usize = 4232;
 
@@ -24,11 +25,16 @@ const ENABLED_AT: u16 = 132;
 
 const STOPPED_AT: u16 = 133;
 
-// Each word as its bytes, the high one first.
+// Each word as its bytes, the high one first. The array's own `map` would move each word through a slot, in twice the time.
 fn word_bytes(x: &[u32; 31]) -> [[u8; 4]; 31]
     ensures { flat_map (λ bytes. bytes) result ≡ words x.now }
 {
-    x.map(u32::to_be_bytes)
+    array::from_fn(
+        |i|
+            requires { i < 31 }
+            ensures { result ≡ high_first (slice_index x.entry.now i) }
+        { x[i].to_be_bytes() },
+    )
 }
 
 // Writes the image of a core.
@@ -97,7 +103,7 @@ fn read_words(bytes: &[u8; 124]) -> [u32; 31]
 {
     let (chunks, _) = bytes.as_chunks();
     let words: &[[u8; 4]; 31] = chunks.as_array().unwrap();
-    words.map(u32::from_be_bytes)
+    array::from_fn(|i| u32::from_be_bytes(words[i]))
 }
 
 // A place, which offends at an offset unless it is a multiple of 4.
